@@ -1,0 +1,7 @@
+pub mod Span
+pub mod BitLaws
+pub mod WordLaws
+pub mod EffectLaws
+pub mod ReadyLaws
+pub mod LowestLaws
+pub mod EntryLaws

@@ -1,0 +1,6 @@
+pub mod Bits
+pub mod Word
+pub mod Effect
+pub mod Ready
+pub mod Entry
+pub mod Computes
