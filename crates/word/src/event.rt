@@ -4,10 +4,10 @@ ghost use Rattle.word.specs.Word.{mask, allBut, has, link, withLink, unl
 use crate::Flag;
 use crate::Port;
 
-// The number of link bits, and the numbers that fit in them.
+// The number of link bits, and how many numbers fit in them.
 pub const LINK_BITS: u32 = 17;
 
-const LINKS: u32 = 1 << LINK_BITS;
+pub const LINKS: u32 = 1 << LINK_BITS;
 
 // The number of link bits, as init_control answers it.
 pub fn link_bits() -> u32

@@ -1,0 +1,27 @@
+-- `calls::guest::service` meets its contract. Assumes nothing.
+use Rattle.calls.specs.Guest.{serviceStart}
+use borrow.Author.Needs.{needs}
+use Rattle.calls.proofs.guest.service.Statement.{statement}
+use Rattle.calls.proofs.guest.service.Tie as tie
+
+is-serving-requires : tie.Need-is-serving-requires
+is-serving-requires c κs = search needs
+
+returns : tie.Need-returns
+unfolding serviceStart
+returns c = simp (c .if1 .taken, ← (c .before .is-serving .ensures))
+
+guest-call-at-requires : tie.Need-guest-call-at-requires
+guest-call-at-requires c κs = search needs
+
+guest-next-requires : tie.Need-guest-next-requires
+guest-next-requires c κs = search needs
+
+returns-2 : tie.Need-returns-2
+unfolding serviceStart
+returns-2 c = simp (← (c .guest-next .ensures), ← (c .before .guest-call-at .ensures), c .before .before .before .if1 .left, ← (c .before .before .before .before .is-serving .ensures))
+
+pub service-spec : {M : Type 1} → statement M
+service-spec =
+    tie.close
+    (tie.spec is-serving-requires returns guest-call-at-requires guest-next-requires returns-2)

@@ -1,0 +1,351 @@
+// What the word seen makes of a hypervisor's call under way: R1 to R6, U1, a bind's read and a close's and. Each stage is a
+// function of the call, the port's ledger entry and what R2 looks at in the record, and gives all that changes.
+ghost use mathlib.Core.Path.{_≡_};
+ghost use Rattle.word.specs.Word.{linkBits};
+ghost use Rattle.calls.specs.Hypervisor.{goesOn, ends, endsTailed, named, replyR1, replyU1, replyBind, replyClose, replyFirst, staleQueue, afterR2, replyR2, triesCas, replyR4, replyR5, replyR6, staged, dueFirst, due};
+use crate::records;
+use crate::types::Access;
+use crate::types::Answer;
+use crate::types::Call;
+use crate::types::Owner;
+use crate::types::Place;
+use crate::types::Stage;
+use word::Flag;
+use word::Port;
+use word::Queue;
+
+// What R2's reply reads of the record beside its call: the pages, the tail of the port's queue, that of its last queue.
+pub struct View {
+    pub pages: u32,
+    pub tail: u32,
+    pub former: u32,
+}
+
+// All that a reply changes: one queue's tail (none where the queue is 16), the entry, the call; and the answer with its
+// count where the call ends.
+pub struct Move {
+    pub queue: Queue,
+    pub tail: u32,
+    pub entry: u16,
+    pub call: Call,
+    pub answer: Answer,
+    pub count: u32,
+}
+
+// The call goes on; no tail changes.
+pub fn goes_on(entry: u16, call: Call) -> Move
+    ensures { λ r. ⌜ r ≡ goesOn entry call ⌝ }
+{
+    Move {
+        queue: Queue(16),
+        tail: 0,
+        entry: entry,
+        call: call,
+        answer: Answer::Done,
+        count: 0,
+    }
+}
+
+// The call ends; no tail changes.
+pub fn ends(entry: u16, answer: Answer, count: u32) -> Move
+    ensures { λ r. ⌜ r ≡ ends entry answer count ⌝ }
+{
+    let call = records::idle_call();
+    Move {
+        queue: Queue(16),
+        tail: 0,
+        entry: entry,
+        call: call,
+        answer: answer,
+        count: count,
+    }
+}
+
+// The call ends, and its port is its queue's tail.
+pub fn ends_tailed(entry: u16, call: Call, answer: Answer) -> Move
+    ensures { λ r. ⌜ r ≡ endsTailed entry call answer ⌝ }
+{
+    let queue = call.queue;
+    let port = call.port;
+    let idle = records::idle_call();
+    Move {
+        queue: queue,
+        tail: port.0,
+        entry: entry,
+        call: idle,
+        answer: answer,
+        count: call.count,
+    }
+}
+
+// The call with another access named, on a queue.
+pub fn named(call: Call, stage: Stage, queue: Queue) -> Call
+    ensures { λ r. ⌜ r ≡ named call stage queue ⌝ }
+{
+    let count = records::one_more(call.count);
+    let owner = call.owner;
+    let port = call.port;
+    records::call_at(owner, stage, port, queue, count)
+}
+
+// R1: masked or linked ends the call; else R2.
+pub fn reply_r1(call: Call, entry: u16, seen: u32) -> Move
+    ensures { λ r. ⌜ r ≡ replyR1 call entry seen ⌝ }
+{
+    let masked = word::event::has(seen, Flag::Masked);
+    if masked {
+        return ends(entry, Answer::Done, call.count);
+    }
+    let linked = word::event::has(seen, Flag::Linked);
+    if linked {
+        return ends(entry, Answer::Done, call.count);
+    }
+    let next = named(call, Stage::R2, Queue(0));
+    goes_on(entry, next)
+}
+
+// U1: pending and not linked goes on at R2.
+pub fn reply_u1(call: Call, entry: u16, seen: u32) -> Move
+    ensures { λ r. ⌜ r ≡ replyU1 call entry seen ⌝ }
+{
+    let quiet = !word::event::has(seen, Flag::Pending);
+    if quiet {
+        return ends(entry, Answer::Done, call.count);
+    }
+    let linked = word::event::has(seen, Flag::Linked);
+    if linked {
+        return ends(entry, Answer::Done, call.count);
+    }
+    let next = named(call, Stage::R2, Queue(0));
+    goes_on(entry, next)
+}
+
+// A bind's read: an old event that is still linked refuses it (7).
+pub fn reply_bind(call: Call, entry: u16, seen: u32) -> Move
+    ensures { λ r. ⌜ r ≡ replyBind call entry seen ⌝ }
+{
+    let linked = word::event::has(seen, Flag::Linked);
+    if linked {
+        return ends(entry, Answer::StillLinked, call.count);
+    }
+    let bound = word::entry::bound_entry(entry);
+    ends(bound, Answer::Done, call.count)
+}
+
+// A close's and.
+pub fn reply_close(call: Call, entry: u16) -> Move
+    ensures { λ r. ⌜ r ≡ replyClose call entry ⌝ }
+{
+    let closed = word::entry::closed_entry(entry);
+    ends(closed, Answer::Done, call.count)
+}
+
+// The owner's first access.
+pub fn reply_first(call: Call, entry: u16, seen: u32) -> Move
+    ensures { λ r. ⌜ r ≡ replyFirst call entry seen ⌝ }
+{
+    let owner = call.owner;
+    match owner {
+        Owner::None => ends(entry, Answer::NoCall, 0),
+        Owner::Bind => reply_bind(call, entry, seen),
+        Owner::Close => reply_close(call, entry),
+        Owner::Raise => reply_r1(call, entry, seen),
+        Owner::Unmask => reply_u1(call, entry, seen),
+    }
+}
+
+// R2, the rule on a moved port: its last queue, where that still has the port as its tail and is another; else 16.
+pub fn stale_queue(entry: u16, port: Port, queue: Queue, former: u32) -> Queue
+    ensures { λ r. ⌜ r ≡ staleQueue entry port queue former ⌝ }
+{
+    let never = !word::entry::has_been_linked(entry);
+    if never {
+        return Queue(16);
+    }
+    let last = word::entry::last_queue(entry);
+    let same = last.0 == queue.0;
+    if same {
+        return Queue(16);
+    }
+    let own = former == port.0;
+    if own {
+        return last;
+    }
+    Queue(16)
+}
+
+// After R2: R5 where the queue has no tail or the port itself as its tail, else R3.
+pub fn after_r2(call: Call, queue: Queue, tail: u32) -> Call
+    ensures { λ r. ⌜ r ≡ afterR2 call queue tail ⌝ }
+{
+    let none = tail == 0;
+    if none {
+        return named(call, Stage::R5, queue);
+    }
+    let port = call.port;
+    let own = tail == port.0;
+    if own {
+        return named(call, Stage::R5, queue);
+    }
+    named(call, Stage::R3, queue)
+}
+
+// R2: the queue is the entry's priority now.
+pub fn reply_r2(call: Call, entry: u16, view: View, seen: u32) -> Move
+    ensures { λ r. ⌜ r ≡ replyR2 call entry view seen ⌝ }
+{
+    let linked = word::event::has(seen, Flag::Linked);
+    if linked {
+        return ends(entry, Answer::Done, call.count);
+    }
+    let priority = word::entry::priority_of(entry);
+    let queue = word::entry::queue_of(priority);
+    let port = call.port;
+    let former = records::effective_tail(view.pages, view.former);
+    let stale = stale_queue(entry, port, queue, former);
+    let moved = word::entry::linked_entry(entry, queue);
+    let tail = records::effective_tail(view.pages, view.tail);
+    let next = after_r2(call, queue, tail);
+    Move {
+        queue: stale,
+        tail: 0,
+        entry: moved,
+        call: next,
+        answer: Answer::Done,
+        count: 0,
+    }
+}
+
+// R4: what follows a word seen of the tail, after so many cas: R5 where it lacks LINKED, else a cas, of which there are
+// at most four.
+pub fn tries_cas(call: Call, entry: u16, tries: u32, seen: u32) -> Move
+    ensures { λ r. ⌜ r ≡ triesCas call entry tries seen ⌝ }
+{
+    let queue = call.queue;
+    let unlinked = !word::event::has(seen, Flag::Linked);
+    if unlinked {
+        let next = named(call, Stage::R5, queue);
+        return goes_on(entry, next);
+    }
+    let last = 4 <= tries;
+    if last {
+        return ends_tailed(entry, call, Answer::LinkAbandoned);
+    }
+    let count = records::one_more(call.count);
+    let owner = call.owner;
+    let port = call.port;
+    let next = Call {
+        owner: owner,
+        stage: Stage::R4,
+        port: port,
+        queue: queue,
+        word: seen,
+        tries: tries + 1,
+        count: count,
+    };
+    goes_on(entry, next)
+}
+
+// R4's cas: taken ends the call.
+pub fn reply_r4(call: Call, entry: u16, seen: u32) -> Move
+    ensures { λ r. ⌜ r ≡ replyR4 call entry seen ⌝ }
+{
+    let taken = word::effect::cas_taken(seen, call.word);
+    if taken {
+        return ends_tailed(entry, call, Answer::Done);
+    }
+    tries_cas(call, entry, call.tries, seen)
+}
+
+// R5: the port is its queue's tail, and R6 follows. The word handed back for a store is ignored.
+pub fn reply_r5(call: Call, entry: u16) -> Move
+    ensures { λ r. ⌜ r ≡ replyR5 call entry ⌝ }
+{
+    let queue = call.queue;
+    let port = call.port;
+    let next = named(call, Stage::R6, queue);
+    Move {
+        queue: queue,
+        tail: port.0,
+        entry: entry,
+        call: next,
+        answer: Answer::Done,
+        count: 0,
+    }
+}
+
+// R6: an upcall is wanted if the bit was clear.
+pub fn reply_r6(call: Call, entry: u16, seen: u32) -> Move
+    ensures { λ r. ⌜ r ≡ replyR6 call entry seen ⌝ }
+{
+    let queue = call.queue;
+    let ready = word::ready::is_ready(seen, queue);
+    if ready {
+        return ends(entry, Answer::Done, call.count);
+    }
+    ends(entry, Answer::UpcallWanted, call.count)
+}
+
+// The reply of the call's stage.
+pub fn staged(call: Call, entry: u16, view: View, seen: u32) -> Move
+    ensures { λ r. ⌜ r ≡ staged call entry view seen ⌝ }
+{
+    let stage = call.stage;
+    match stage {
+        Stage::First => reply_first(call, entry, seen),
+        Stage::R2 => reply_r2(call, entry, view, seen),
+        Stage::R3 => tries_cas(call, entry, 0, seen),
+        Stage::R4 => reply_r4(call, entry, seen),
+        Stage::R5 => reply_r5(call, entry),
+        Stage::R6 => reply_r6(call, entry, seen),
+    }
+}
+
+// The owner's first access.
+pub fn due_first(owner: Owner, port: Port) -> Access
+    ensures { λ r. ⌜ r ≡ dueFirst owner port ⌝ }
+{
+    match owner {
+        Owner::None => Access::Read(Place::Word(port)),
+        Owner::Bind => Access::Read(Place::Word(port)),
+        Owner::Close => {
+            let operand = word::event::all_but(Flag::Pending);
+            Access::And(Place::Word(port), operand)
+        }
+        Owner::Raise => {
+            let operand = word::event::mask(Flag::Pending);
+            Access::Or(Place::Word(port), operand)
+        }
+        Owner::Unmask => {
+            let operand = word::event::all_but(Flag::Masked);
+            Access::And(Place::Word(port), operand)
+        }
+    }
+}
+
+// The access that a call waits for, where tail is its queue's tail.
+pub fn due(call: Call, tail: u32) -> Access
+    ensures { λ r. ⌜ r ≡ due linkBits call tail ⌝ }
+{
+    let port = call.port;
+    let queue = call.queue;
+    let owner = call.owner;
+    let stage = call.stage;
+    match stage {
+        Stage::First => due_first(owner, port),
+        Stage::R2 => {
+            let operand = word::event::mask(Flag::Linked);
+            Access::Or(Place::Word(port), operand)
+        }
+        Stage::R3 => Access::Read(Place::Word(Port(tail))),
+        Stage::R4 => {
+            let new = word::event::with_link(call.word, port);
+            Access::Cas(Place::Word(Port(tail)), call.word, new)
+        }
+        Stage::R5 => Access::Store(Place::Head(queue), port.0),
+        Stage::R6 => {
+            let operand = word::ready::ready_mask(queue);
+            Access::Or(Place::Ready, operand)
+        }
+    }
+}
