@@ -1,0 +1,17 @@
+pub mod Cases
+pub mod UpdateLaws
+pub mod ChainLaws
+pub mod QueueLaws
+pub mod Frame
+pub mod Ask
+pub mod Link
+pub mod WordLaws
+pub mod TakeIn
+pub mod Tail
+pub mod Service
+pub mod GiveOut
+pub mod Expand
+pub mod Claim
+pub mod Budget
+pub mod Steps
+pub mod OneVcpu
