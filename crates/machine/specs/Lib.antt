@@ -1,2 +1,4 @@
 pub mod Memory
 pub mod Exec
+pub mod Line
+pub mod Log

@@ -1,0 +1,4 @@
+mod TextLaws
+mod DigitLaws
+mod LengthLaws
+mod Example
