@@ -1,2 +1,4 @@
 pub mod Cases
 pub mod SmallSet
+pub mod Reach
+pub mod Refusals

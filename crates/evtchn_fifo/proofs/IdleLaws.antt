@@ -1,0 +1,33 @@
+-- Whether a call is under way, told by the codes of its owner and stage.
+-- Assumes nothing.
+use Prim.Native.Nat.{ℕ, zero, suc, _≤_}
+use mathlib.Core.Path.{_≡_, refl}
+use mathlib.Core.Bool.{Bool, true, false, cond}
+use lib.Dec.{eqb, ltb, leb}
+use borrow.Author.Tests.{ltb-true, ltb-false, lt-leb, le-leb, ne-eqb}
+use native.Mathlib.Omega.{arith}
+use Rattle.calls.specs.declared.types.Owner.the-variants as owner
+use Rattle.calls.specs.Records.{isFree}
+use Rattle.evtchn_fifo.specs.DomainRecord.{ownerOf}
+
+high-free : (o : ℕ) → 5 ≤ o → isFree (ownerOf o) ≡ cond (eqb o 0) true (leb 5 o)
+unfolding isFree ownerOf
+high-free o h =
+    simp (ne-eqb o 0 (λ e. omega arith), ne-eqb o 1 (λ e. omega arith), ne-eqb o 2 (λ e. omega arith), ne-eqb o 3 (λ e. omega arith), ne-eqb o 4 (λ e. omega arith), le-leb 5 o h)
+
+owner-free : (o : ℕ) → isFree (ownerOf o) ≡ cond (eqb o 0) true (leb 5 o)
+unfolding isFree ownerOf
+owner-free zero = refl
+owner-free (suc zero) = refl
+owner-free (suc (suc zero)) = refl
+owner-free (suc (suc (suc zero))) = refl
+owner-free (suc (suc (suc (suc zero)))) = refl
+owner-free (suc (suc (suc (suc (suc o))))) = high-free (suc (suc (suc (suc (suc o))))) (omega arith)
+
+idle-by : (s o : ℕ) (b : Bool) → ltb s 6 ≡ b → isFree (cond (ltb s 6) (ownerOf o) owner.None) ≡ cond (leb 6 s) true (cond (eqb o 0) true (leb 5 o))
+unfolding isFree
+idle-by s o true e = rw (e, lt-leb 6 s (ltb-true s 6 e)) (owner-free o)
+idle-by s o false e = rw (e, le-leb 6 s (ltb-false s 6 e))
+
+pub idle-is : (s o : ℕ) → isFree (cond (ltb s 6) (ownerOf o) owner.None) ≡ cond (leb 6 s) true (cond (eqb o 0) true (leb 5 o))
+idle-is s o = idle-by s o (ltb s 6) refl

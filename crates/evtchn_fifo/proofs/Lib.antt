@@ -1,0 +1,10 @@
+pub mod NumberLaws
+pub mod WriteLaws
+pub mod LedgerLaws
+pub mod DomainLaws
+pub mod GuestLaws
+pub mod IdleLaws
+pub mod Refusals
+pub mod Narrow
+pub mod Meaning
+pub mod GuestMeaning

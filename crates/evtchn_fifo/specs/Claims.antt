@@ -1,0 +1,133 @@
+-- What the exported functions mean: on bytes that are long enough each is the call of `calls` on the record and the ledger that
+-- the bytes are; on shorter ones, and where document 01 refuses, every byte stays. n is the number of link bits. The theorems
+-- `domain-calls`, `guest-calls`, `narrow-numbers` and `refusals` of proofs/ prove these records.
+-- Assumes nothing.
+use Prim.Native.Nat.{ℕ, _<_, _≤_}
+use mathlib.Core.Path.{_≡_}
+use mathlib.Core.List.{List}
+use lib.ListN.{length, replicate}
+use lib.Dec.{eqb, ltb}
+use Rattle.word.specs.declared.Port.{Port}
+use Rattle.word.specs.Word.{portAt, linkBits}
+use Rattle.word.specs.Entry.{priorityAt, freshEntry}
+use Rattle.calls.specs.declared.types.Domain.{Domain}
+use Rattle.calls.specs.declared.types.Outcome.{Outcome}
+use Rattle.calls.specs.declared.types.Guest.{Guest}
+use Rattle.calls.specs.declared.types.GuestOutcome.{GuestOutcome}
+use Rattle.calls.specs.Records.{isPort, freshDomain, freshGuest}
+use Rattle.calls.specs.Hypervisor.{Turn, isOffset, initControl, expandArray, bindStart, closeStart, setPriority, raiseStart, unmaskStart, replyOf, dueOf}
+use Rattle.calls.specs.Guest.{serviceStart, serviceReply, guestDueOf, tellOf}
+use Rattle.evtchn_fifo.specs.declared.encoded.EncodedNext.{EncodedNext}
+use Rattle.evtchn_fifo.specs.declared.hypervisor.PortCall.{PortCall}
+use Rattle.evtchn_fifo.specs.Numbers.{narrow}
+use Rattle.evtchn_fifo.specs.Encoded.{Wrote, wrote, Carried, carried, encodedNext, tooShort}
+use Rattle.evtchn_fifo.specs.Ledger.{entries, ledgerAt, freshLedgerBytes}
+use Rattle.evtchn_fifo.specs.DomainRecord.{domainSize, domainAt, putDomain}
+use Rattle.evtchn_fifo.specs.GuestRecord.{guestSize, guestAt, putGuest}
+use Rattle.evtchn_fifo.specs.Hypervisor.{startsOf, onPort, initBytes, expandBytes, bindBytes, closeBytes, setPriorityBytes, raiseBytes, unmaskBytes, replyBytes, dueBytes, freshDomainBytes}
+use Rattle.evtchn_fifo.specs.Guest.{serviceBytes, serviceReplyBytes, serviceDueBytes, tellBytes, freshGuestBytes}
+
+-- ---- a call on a domain's record and its ledger
+
+pub record Meant : Type 0 where
+  pub next : EncodedNext
+  pub domain : Domain
+  pub ledger : List ℕ
+
+-- what the bytes after a call are
+abbrev pub meant : Carried → Meant
+meant c = record { next = c .next; domain = domainAt (c .record-bytes); ledger = ledgerAt (c .ledger-bytes) }
+
+-- what a call of `calls` gives
+abbrev pub told : Turn → Meant
+told u = record { next = encodedNext (u .outcome .next); domain = u .outcome .domain; ledger = u .ledger }
+
+pub record IsCall (f : List ℕ → List ℕ → Carried) (g : Domain → List ℕ → Turn) : Type 0 where
+  pub means : (r t : List ℕ) → domainSize ≤ length r → meant (f r t) ≡ told (g (domainAt r) (ledgerAt t))
+  pub short : (r t : List ℕ) → length r < domainSize → f r t ≡ carried tooShort r t
+
+-- ---- a call on a domain's record alone
+
+pub record MeantAlone : Type 0 where
+  pub next : EncodedNext
+  pub domain : Domain
+
+abbrev pub meantAlone : Wrote → MeantAlone
+meantAlone w = record { next = w .next; domain = domainAt (w .record-bytes) }
+
+abbrev pub toldAlone : Outcome → MeantAlone
+toldAlone o = record { next = encodedNext (o .next); domain = o .domain }
+
+pub record IsCallAlone (f : List ℕ → Wrote) (g : Domain → Outcome) : Type 0 where
+  pub means : (r : List ℕ) → domainSize ≤ length r → meantAlone (f r) ≡ toldAlone (g (domainAt r))
+  pub short : (r : List ℕ) → length r < domainSize → f r ≡ wrote tooShort r
+
+-- ---- a call on a guest's record
+
+pub record MeantGuest : Type 0 where
+  pub next : EncodedNext
+  pub guest : Guest
+
+abbrev pub meantGuest : Wrote → MeantGuest
+meantGuest w = record { next = w .next; guest = guestAt (w .record-bytes) }
+
+abbrev pub toldGuest : GuestOutcome → MeantGuest
+toldGuest o = record { next = encodedNext (o .next); guest = o .guest }
+
+pub record IsGuestCall (f : List ℕ → Wrote) (g : Guest → GuestOutcome) : Type 0 where
+  pub means : (r : List ℕ) → guestSize ≤ length r → meantGuest (f r) ≡ toldGuest (g (guestAt r))
+  pub short : (r : List ℕ) → length r < guestSize → f r ≡ wrote tooShort r
+
+-- ---- the claims
+
+pub record DomainCalls (n : ℕ) : Type 0 where
+  -- a record written whole is read back
+  pub read-back : (r : List ℕ) (d : Domain) → domainSize ≤ length r → length (d .tails) ≡ 16 → domainAt (putDomain r d) ≡ d
+  pub init-control : (vcpu frame frames offset : ℕ) → IsCallAlone (λ r. initBytes n r vcpu frame frames offset) (λ d. initControl n d (narrow vcpu) frame frames (narrow offset))
+  pub expand-array : (frame frames : ℕ) → IsCallAlone (λ r. expandBytes n r frame frames) (λ d. expandArray n d frame frames)
+  pub bind : (p : ℕ) → IsCall (λ r t. bindBytes n r t p) (λ d l. bindStart n d l (portAt (narrow p)))
+  pub close : (p : ℕ) → IsCall (λ r t. closeBytes n r t p) (λ d l. closeStart n d l (portAt (narrow p)))
+  pub set-priority : (p level : ℕ) → IsCall (λ r t. setPriorityBytes n r t p level) (λ d l. setPriority n d l (portAt (narrow p)) (priorityAt (narrow level)))
+  pub raise : (p : ℕ) → IsCall (λ r t. raiseBytes n r t p) (λ d l. raiseStart n d l (portAt (narrow p)))
+  pub unmask : (p : ℕ) → IsCall (λ r t. unmaskBytes n r t p) (λ d l. unmaskStart n d l (portAt (narrow p)))
+  pub reply : (seen : ℕ) → IsCall (λ r t. replyBytes n r t seen) (λ d l. replyOf n d l seen)
+  pub due : (r : List ℕ) → domainSize ≤ length r → dueBytes n r ≡ encodedNext (dueOf n (domainAt r))
+  pub fresh : (r : List ℕ) → domainSize ≤ length r → domainAt (freshDomainBytes r .record-bytes) ≡ freshDomain
+  -- so are bytes of 0
+  pub zeros : domainAt (replicate domainSize 0) ≡ freshDomain
+  pub fresh-ledger : (t : List ℕ) → ledgerAt (freshLedgerBytes t .record-bytes) ≡ replicate (entries t) freshEntry
+
+pub record GuestCalls (n : ℕ) : Type 0 where
+  pub read-back : (r : List ℕ) (g : Guest) → guestSize ≤ length r → length (g .heads) ≡ 16 → guestAt (putGuest r g) ≡ g
+  pub service : IsGuestCall (λ r. serviceBytes n r) (λ g. serviceStart n g)
+  pub service-reply : (seen : ℕ) → IsGuestCall (λ r. serviceReplyBytes n r seen) (λ g. serviceReply n g seen)
+  pub service-due : (r : List ℕ) → guestSize ≤ length r → serviceDueBytes n r ≡ encodedNext (guestDueOf n (guestAt r))
+  pub tell : (words : ℕ) → IsGuestCall (λ r. tellBytes r words) (λ g. tellOf g (narrow words))
+  pub fresh : (r : List ℕ) → guestSize ≤ length r → guestAt (freshGuestBytes r .record-bytes) ≡ freshGuest
+  pub zeros : guestAt (replicate guestSize 0) ≡ freshGuest
+
+-- a number of 64 bits is refused, or not, as the number of 32 bits that stands for it
+pub record NarrowNumbers : Type 0 where
+  pub port : (p : ℕ) → isPort linkBits (narrow p) ≡ isPort linkBits p
+  pub priority : (level : ℕ) → ltb 15 (narrow level) ≡ ltb 15 level
+  pub vcpu : (v : ℕ) → eqb (narrow v) 0 ≡ eqb v 0
+  pub offset : (o : ℕ) → isOffset (narrow o) ≡ isOffset o
+
+-- ---- refusals keep every byte
+
+-- whatever is answered with a number from k on
+abbrev pub KeepsFrom : ℕ → (List ℕ → List ℕ → Carried) → Type 0
+KeepsFrom k f = (r t : List ℕ) → k ≤ f r t .next .code → f r t .next .code < 0x100 → f r t ≡ carried (f r t .next) r t
+
+abbrev pub KeepsAloneFrom : ℕ → (List ℕ → Wrote) → Type 0
+KeepsAloneFrom k f = (r : List ℕ) → k ≤ f r .next .code → f r .next .code < 0x100 → f r ≡ wrote (f r .next) r
+
+-- a start answers 0 or refuses; a reply's refusals are 14, 16 and 64, besides 7, which ends the bind; a service's reply refuses
+-- with 16 and 64, besides 18, which ends the service
+pub record Refusals (n : ℕ) : Type 0 where
+  pub port-call : (call : PortCall) (p : Port) → KeepsFrom 1 (λ r t. onPort n (startsOf n call) r t p)
+  pub init-control : (vcpu frame frames offset : ℕ) → KeepsAloneFrom 1 (λ r. initBytes n r vcpu frame frames offset)
+  pub expand-array : (frame frames : ℕ) → KeepsAloneFrom 1 (λ r. expandBytes n r frame frames)
+  pub reply : (seen : ℕ) → KeepsFrom 8 (λ r t. replyBytes n r t seen)
+  pub service : KeepsAloneFrom 1 (λ r. serviceBytes n r)
+  pub service-reply : (seen : ℕ) (r : List ℕ) → serviceReplyBytes n r seen .next .code < 18 → serviceReplyBytes n r seen ≡ wrote (serviceReplyBytes n r seen .next) r

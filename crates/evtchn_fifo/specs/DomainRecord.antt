@@ -1,0 +1,117 @@
+-- Document 01's house record in 100 bytes, each word of four: given 0, pages 4, tails 8, then the call under way: owner 72,
+-- stage 76, port 80, queue 84, word 88, tries 92, count 96. Any bytes are a record. Given is any number but 0; an owner or a
+-- stage that is none of the list's means that no call is under way.
+-- Assumes nothing.
+use Prim.Native.Nat.{ℕ}
+use mathlib.Core.Bool.{Bool, true, false, cond, not}
+use mathlib.Core.List.{List}
+use lib.Dec.{eqb, ltb}
+use Rattle.word.specs.Word.{portAt, queueAt}
+use Rattle.word.specs.Entry.{priority, lastQueue}
+use Rattle.calls.specs.declared.types.Owner.{Owner}
+use Rattle.calls.specs.declared.types.Owner.the-variants as owner
+use Rattle.calls.specs.declared.types.Stage.{Stage}
+use Rattle.calls.specs.declared.types.Stage.the-variants.{First, R2, R3, R4, R5, R6}
+use Rattle.calls.specs.declared.types.Call.{Call}
+use Rattle.calls.specs.declared.types.Domain.{Domain}
+use Rattle.calls.specs.declared.hypervisor.stage.View.{View}
+use Rattle.calls.specs.declared.hypervisor.stage.Move.{Move}
+use Rattle.evtchn_fifo.specs.Numbers.{numberAt, putNumber, numbersAt, valueAt, putValue, putValues}
+
+abbrev pub domainSize : ℕ
+domainSize = 100
+
+-- the number of this layout of both records, the ledger and the codes
+abbrev pub layoutNumber : ℕ
+layoutNumber = 1
+
+-- ---- codes
+
+abbrev pub ownerCode : Owner → ℕ
+ownerCode owner.None = 0
+ownerCode owner.Bind = 1
+ownerCode owner.Close = 2
+ownerCode owner.Raise = 3
+ownerCode owner.Unmask = 4
+
+unfoldable pub ownerOf : ℕ → Owner
+ownerOf k =
+    cond (eqb k 1) owner.Bind
+    (cond (eqb k 2) owner.Close
+    (cond (eqb k 3) owner.Raise
+    (cond (eqb k 4) owner.Unmask
+    owner.None)))
+
+abbrev pub stageCode : Stage → ℕ
+stageCode First = 0
+stageCode R2 = 1
+stageCode R3 = 2
+stageCode R4 = 3
+stageCode R5 = 4
+stageCode R6 = 5
+
+unfoldable pub stageOf : ℕ → Stage
+stageOf k =
+    cond (eqb k 1) R2
+    (cond (eqb k 2) R3
+    (cond (eqb k 3) R4
+    (cond (eqb k 4) R5
+    (cond (eqb k 5) R6
+    First))))
+
+abbrev pub givenCode : Bool → ℕ
+givenCode true = 1
+givenCode false = 0
+
+-- ---- reading
+
+unfoldable pub givenAt : List ℕ → Bool
+givenAt r = not (eqb (numberAt 3 r 0) 0)
+
+abbrev pub pagesAt : List ℕ → ℕ
+pagesAt r = numberAt 3 r 4
+
+abbrev pub tailAt : List ℕ → ℕ → ℕ
+tailAt r q = valueAt 8 r q
+
+unfoldable pub ownerAt : List ℕ → Owner
+ownerAt r = cond (ltb (numberAt 3 r 76) 6) (ownerOf (numberAt 3 r 72)) owner.None
+
+unfoldable pub callAt : List ℕ → Call
+callAt r = record { owner = ownerAt r; stage = stageOf (numberAt 3 r 76); port = portAt (numberAt 3 r 80); queue = queueAt (numberAt 3 r 84); word = numberAt 3 r 88; tries = numberAt 3 r 92; count = numberAt 3 r 96 }
+
+unfoldable pub viewAt : List ℕ → ℕ → View
+viewAt r e = record { pages = pagesAt r; tail = tailAt r (priority e); former = tailAt r (lastQueue e) }
+
+-- the record that the bytes are
+unfoldable pub domainAt : List ℕ → Domain
+domainAt r = record { given = givenAt r; pages = pagesAt r; tails = numbersAt 3 r 8 16; call = callAt r }
+
+-- ---- writing
+
+unfoldable pub putCall : List ℕ → Call → List ℕ
+putCall r c =
+    putNumber 3
+    (putNumber 3
+    (putNumber 3
+    (putNumber 3
+    (putNumber 3
+    (putNumber 3
+    (putNumber 3 r 72 (ownerCode (c .owner)))
+    76 (stageCode (c .stage)))
+    80 (c .port .0))
+    84 (c .queue .0))
+    88 (c .word))
+    92 (c .tries))
+    96 (c .count)
+
+abbrev pub putTail : List ℕ → ℕ → ℕ → List ℕ
+putTail r q v = putValue 8 r q v
+
+-- all that a reply changes
+abbrev pub putMove : List ℕ → Move → List ℕ
+putMove r m = putTail (putCall r (m .call)) (m .queue .0) (m .tail)
+
+-- a record written whole
+unfoldable pub putDomain : List ℕ → Domain → List ℕ
+putDomain r d = putCall (putValues 8 (putNumber 3 (putNumber 3 r 0 (givenCode (d .given))) 4 (d .pages)) (d .tails)) (d .call)

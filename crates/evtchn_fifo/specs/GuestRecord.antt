@@ -1,0 +1,81 @@
+-- Document 01's guest record in 88 bytes, each word of four: heads 0, local ready bits 64, number of words 68, then the
+-- service under way: stage 72, port 76, queue 80, count 84. Any bytes are a record; a stage that is none of the list's means
+-- that no service is under way.
+-- Assumes nothing.
+use Prim.Native.Nat.{ℕ}
+use mathlib.Core.Bool.{cond}
+use mathlib.Core.List.{List}
+use lib.Dec.{eqb}
+use lib.ListN.{replicate}
+use Rattle.word.specs.Word.{portAt, queueAt}
+use Rattle.calls.specs.Records.{guestCallAt}
+use Rattle.calls.specs.declared.types.GuestStage.{GuestStage}
+use Rattle.calls.specs.declared.types.GuestStage.the-variants.{None, G0, G1, G2, G3, G4}
+use Rattle.calls.specs.declared.types.GuestCall.{GuestCall}
+use Rattle.calls.specs.declared.types.Guest.{Guest}
+use Rattle.calls.specs.declared.guest.GuestMove.{GuestMove}
+use Rattle.evtchn_fifo.specs.Numbers.{numberAt, putNumber, numbersAt, valueAt, putValue, putValues}
+
+abbrev pub guestSize : ℕ
+guestSize = 88
+
+-- ---- codes
+
+abbrev pub guestStageCode : GuestStage → ℕ
+guestStageCode None = 0
+guestStageCode G0 = 1
+guestStageCode G1 = 2
+guestStageCode G2 = 3
+guestStageCode G3 = 4
+guestStageCode G4 = 5
+
+unfoldable pub guestStageOf : ℕ → GuestStage
+guestStageOf k =
+    cond (eqb k 1) G0
+    (cond (eqb k 2) G1
+    (cond (eqb k 3) G2
+    (cond (eqb k 4) G3
+    (cond (eqb k 5) G4
+    None))))
+
+-- ---- reading
+
+abbrev pub headAt : List ℕ → ℕ → ℕ
+headAt r q = valueAt 0 r q
+
+abbrev pub readyAt : List ℕ → ℕ
+readyAt r = numberAt 3 r 64
+
+abbrev pub wordsAt : List ℕ → ℕ
+wordsAt r = numberAt 3 r 68
+
+unfoldable pub serviceAt : List ℕ → GuestCall
+serviceAt r = guestCallAt (guestStageOf (numberAt 3 r 72)) (portAt (numberAt 3 r 76)) (queueAt (numberAt 3 r 80)) (numberAt 3 r 84)
+
+-- the record that the bytes are
+unfoldable pub guestAt : List ℕ → Guest
+guestAt r = record { heads = numbersAt 3 r 0 16; ready = readyAt r; words = wordsAt r; call = serviceAt r }
+
+-- one without heads and ready bits, which neither the start of a service nor a tell looks at
+abbrev pub withoutHeads : ℕ → GuestCall → Guest
+withoutHeads words c = record { heads = replicate 16 0; ready = 0; words = words; call = c }
+
+-- ---- writing
+
+unfoldable pub putService : List ℕ → GuestCall → List ℕ
+putService r c =
+    putNumber 3
+    (putNumber 3
+    (putNumber 3
+    (putNumber 3 r 72 (guestStageCode (c .stage)))
+    76 (c .port .0))
+    80 (c .queue .0))
+    84 (c .count)
+
+-- all that a service's reply changes
+abbrev pub putGuestMove : List ℕ → GuestMove → List ℕ
+putGuestMove r m = putValue 0 (putNumber 3 (putService r (m .call)) 64 (m .ready)) (m .queue .0) (m .head)
+
+-- a record written whole
+unfoldable pub putGuest : List ℕ → Guest → List ℕ
+putGuest r g = putService (putNumber 3 (putNumber 3 (putValues 0 r (g .heads)) 64 (g .ready)) 68 (g .words)) (g .call)

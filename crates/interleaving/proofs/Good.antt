@@ -1,0 +1,62 @@
+-- The invariant of a world: that of its queues, the sizes of its lists, what its calls under way keep, and the order of
+-- what was taken in and given out.
+-- Assumes nothing.
+use mathlib.Core.Path.{_≡_}
+use mathlib.Core.Bool.{Bool, true, false}
+use mathlib.Core.List.{List, _++_}
+use Prim.Native.Nat.{ℕ, suc, _*_, _^_, _≤_, _<_}
+use lib.ListN.{length, getD}
+use Rattle.calls.specs.declared.types.Stage.{Stage}
+use Rattle.calls.specs.declared.types.Stage.the-variants as stage
+use Rattle.calls.specs.declared.types.Call as calls
+use Rattle.calls.specs.Records.{isFree}
+use Rattle.machine.specs.Exec.{World, Advanced, worldAfter, stepOf}
+use Rattle.machine.specs.declared.types.Event.{Event}
+use Rattle.queue.specs.Model.{Call, GuestCall, alone}
+use Rattle.queue.specs.Budget.{madeBy}
+use Rattle.queue.specs.Invariant.{Inv}
+use Rattle.interleaving.specs.Held.{isLinking}
+use Rattle.interleaving.specs.Bounds.{Bounds}
+use Rattle.interleaving.proofs.View.{viewOf, callOf, guestCallOf}
+use Rattle.interleaving.proofs.HistoryLaws.{InOrder}
+
+pub record Sizes (n pages : ℕ) (words control queues guests : List ℕ) : Type 0 where
+  pub array : 1024 * pages ≤ 2 ^ n
+  pub lent : 2 ^ n ≤ length words
+  pub small : (p : ℕ) → p < 1024 * pages → getD words p 0 < 2 ^ 32
+  pub block : length control ≡ 18
+  pub tails : length queues ≡ 16
+  pub heads : length guests ≡ 16
+
+abbrev pub isR4 : Stage → Bool
+isR4 stage.First = false
+isR4 stage.R2 = false
+isR4 stage.R3 = false
+isR4 stage.R4 = true
+isR4 stage.R5 = false
+isR4 stage.R6 = false
+
+-- the hypervisor's call, with a ledger of so many entries
+pub record Fit (entries : ℕ) (c : calls.Call) : Type 0 where
+  pub entry : isFree (c .owner) ≡ false → c .port .0 < entries
+  pub queue : c .queue .0 < 16
+  pub word : c .word < 2 ^ 32
+  pub tries : isR4 (c .stage) ≡ true → 0 < c .tries
+  pub linking : isLinking (c .owner) ≡ false → c .stage ≡ stage.First
+
+pub record Core (n : ℕ) (w : World) (c : Call) (g : GuestCall) (h : List Event) : Type 0 where
+  pub lists : ℕ → List ℕ
+  pub inv : Inv (viewOf n w) c (alone g) lists
+  pub sizes : Sizes n (w .domain .pages) (w .memory .words) (w .memory .block) (w .domain .tails) (w .guest .heads)
+  pub fit : Fit (length (w .ledger)) (w .domain .call)
+  pub count : w .domain .call .count ≤ suc (madeBy c)
+  pub guestQueue : w .guest .call .queue .0 < 16
+  pub order : InOrder h lists
+
+abbrev pub Good : ℕ → World → List Event → Type 0
+Good n w h = Core n w (callOf n (w .domain .call)) (guestCallOf (w .guest .call)) h
+
+-- a step keeps the invariant, and its events their bounds
+pub record Kept (n : ℕ) (a : Advanced) (h : List Event) : Type 0 where
+  pub good : Good n (worldAfter a) (h ++ stepOf a .events)
+  pub bounds : Bounds (stepOf a .events)

@@ -1,0 +1,149 @@
+-- The starts of the guest's calls: service, mask with its access, tell.
+-- Assumes nothing.
+use mathlib.Core.Path.{_≡_, refl, sym, subst}
+use mathlib.Core.Logic.{_≢_}
+use mathlib.Core.Bool.{Bool, true, false, cond, not}
+use mathlib.Core.List.{List, _++_}
+use Prim.Native.Nat.{ℕ, _*_, _≤_, _<_}
+use native.Mathlib.Omega.{arith}
+use lib.Dec.{ltb, leb, lit≤}
+use lib.ListN.{getD}
+use borrow.Author.Tests.{leb-false}
+use Rattle.word.specs.declared.Port.{Port}
+use Rattle.word.specs.declared.Flag.the-variants.{Masked}
+use Rattle.word.specs.Word.{mask, Width, portAt, queueAt}
+use Rattle.word.proofs.WordLaws.{mask-lt}
+use Rattle.word.proofs.EffectLaws.{or-lt-32}
+use Rattle.calls.specs.declared.types.Answer.{Answer}
+use Rattle.calls.specs.declared.types.Answer.the-variants.{Done, BadPort, OutsideArray, CallUnderWay}
+use Rattle.calls.specs.declared.types.Access.the-variants.{Or}
+use Rattle.calls.specs.declared.types.Place.the-variants as place
+use Rattle.calls.specs.declared.types.Next.{Next}
+use Rattle.calls.specs.declared.types.Next.the-variants as next
+use Rattle.calls.specs.declared.types.Masking.the-variants as masking
+use Rattle.calls.specs.declared.types.Guest.{Guest}
+use Rattle.calls.specs.declared.types.GuestStage.{GuestStage}
+use Rattle.calls.specs.declared.types.GuestStage.the-variants as guestStage
+use Rattle.calls.specs.declared.types.GuestCall as guests
+use Rattle.calls.specs.Answers.{codeOf}
+use Rattle.calls.specs.Records.{isPort, guestCallAt}
+use Rattle.calls.specs.Guest.{isServing, guestNext, guestAnswered, guestGoingOn, withGuestCall, serviceStart, maskOf, withWords, tellOf}
+use Rattle.machine.specs.Memory.{memory, performed, placeOf, afterAccess, loaded, saved}
+use Rattle.machine.specs.Exec.{World, guestStep, guestReplied, guestAnswer, listOf, performMasking, performMask, guestStartOf}
+use Rattle.machine.specs.declared.types.GuestStart.{GuestStart}
+use Rattle.machine.specs.declared.types.GuestStart.the-variants.{Service, Mask, Tell}
+use Rattle.machine.specs.declared.types.Step.the-variants as step
+use Rattle.machine.specs.declared.types.Event.{Event}
+use Rattle.machine.specs.declared.types.Event.the-variants.{Nothing}
+use Rattle.queue.specs.Model.{GuestCall, alone, withMasked}
+use Rattle.queue.specs.Model.GuestCall.{noService, atG0}
+use Rattle.queue.specs.Invariant.{Inv}
+use Rattle.queue.proofs.Cases.{clash, by-cond}
+use Rattle.queue.proofs.Service.{startService-keeps, mask-keeps}
+use Rattle.queue.proofs.OneVcpu.{alone-update}
+use Rattle.interleaving.specs.Fresh.{arrayWords}
+use Rattle.interleaving.specs.Rules.{Told, Allowed}
+use Rattle.interleaving.proofs.Decode.{decoded, decoded-masked}
+use Rattle.interleaving.proofs.View.{callOf, guestCallBy, guestCallOf, agree, set-update}
+use Rattle.interleaving.proofs.HistoryLaws.{InOrder, order-quiet, guest-answer-taken, guest-answer-given}
+use Rattle.interleaving.proofs.Good.{Good, Kept}
+use Rattle.interleaving.proofs.Carried.{sizes-word, in-words}
+use Rattle.interleaving.proofs.ServiceAccess.{answer-bounds}
+
+-- a guest that has been told reaches nothing beyond the array
+within : (w : World) → Told w → w .guest .words ≤ arrayWords w
+within w told = omega arith
+
+-- no service is under way
+pub none-serving : (c : guests.GuestCall) → isServing (c .stage) ≡ false → guestCallOf c ≡ noService
+unfolding isServing
+none-serving c e = go (c .stage) e
+  where
+    go : (s : GuestStage) → isServing s ≡ false → guestCallBy s (c .port .0) (c .queue .0) ≡ noService
+    go guestStage.None e = refl
+    go guestStage.G0 e = clash refl e
+    go guestStage.G1 e = clash refl e
+    go guestStage.G2 e = clash refl e
+    go guestStage.G3 e = clash refl e
+    go guestStage.G4 e = clash refl e
+
+module _ {n : ℕ} (wide : Width n) (w : World) (h : List Event) (k : Good n w h) where
+  order-start : (x : Next) → InOrder (h ++ listOf (guestAnswer x)) (k .lists)
+  order-start x = order-quiet h (listOf (guestAnswer x)) (k .lists) (k .order) (λ q. guest-answer-taken q x) (λ q. guest-answer-given q x)
+
+  -- an answer at once, and the record is as before
+  pub answered-kept : (a : Answer) (count : ℕ) → codeOf a .number ≢ 18 → Kept n (guestStep w (guestReplied (record { guest = w .guest; next = next.Answer a count }) Nothing (w .memory))) h
+  answered-kept a count f = record {
+    good = record { lists = k .lists; inv = k .inv; sizes = k .sizes; fit = k .fit; count = k .count; guestQueue = k .guestQueue; order = order-start (next.Answer a count) };
+    bounds = (f, tt);
+  }
+
+  service-start : (b : Bool) → isServing (w .guest .call .stage) ≡ b
+      → Kept n (guestStep w (guestReplied (cond b (guestAnswered (w .guest) CallUnderWay) (guestGoingOn n (withGuestCall (w .guest) (guestCallAt guestStage.G0 (portAt 0) (queueAt 0) 1)) Done 0)) Nothing (w .memory))) h
+  unfolding codeOf
+  service-start true e = answered-kept CallUnderWay 0 (λ d. omega arith)
+  service-start false e = record {
+    good = record {
+      lists = k .lists;
+      inv = rw (alone-update noService atG0) at (startService-keeps 0 refl (rw (none-serving (w .guest .call) e) at (k .inv)));
+      sizes = k .sizes;
+      fit = k .fit;
+      count = k .count;
+      guestQueue = lit≤ tt;
+      order = order-start (guestNext n (withGuestCall (w .guest) (guestCallAt guestStage.G0 (portAt 0) (queueAt 0) 1)) Done 0);
+    };
+    bounds = answer-bounds n _ Done 0 (λ d. omega arith);
+  }
+
+  -- a mask in the array
+  masked-kept : (p : Port) → p .0 < 1024 * w .domain .pages → Kept n (guestStep w (performMasking (w .guest) (w .memory) (masking.Made (Or (place.Word p) (mask Masked)) Done 1))) h
+  unfolding codeOf performed placeOf afterAccess loaded saved
+  masked-kept p inside = record {
+    good = record {
+      lists = k .lists;
+      inv = subst (λ v. Inv v (callOf n (w .domain .call)) (alone (guestCallOf (w .guest .call))) (k .lists)) (sym (agree (record {
+        word = set-update (decoded n) (w .memory .words) (p .0) _ (withMasked true (decoded n s)) (in-words (k .sizes) (p .0) inside) (decoded-masked wide s);
+        size = refl;
+        tail = λ q. refl;
+        lastQueue = λ x. refl;
+        everLinked = λ x. refl;
+        head = λ q. refl;
+        ready = λ q. refl;
+        guestHead = λ q. refl;
+        local = λ q. refl;
+        owner = λ q. refl;
+      }))) (mask-keeps (p .0) (k .inv));
+      sizes = sizes-word (k .sizes) (p .0) _ (or-lt-32 s (mask Masked) (k .sizes .small (p .0) inside) (mask-lt Masked));
+      fit = k .fit;
+      count = k .count;
+      guestQueue = k .guestQueue;
+      order = order-quiet h _ (k .lists) (k .order) (λ q. refl) (λ q. refl);
+    };
+    bounds = (tt, ((λ d. omega arith), tt));
+  }
+    where
+      s : ℕ
+      s = getD (w .memory .words) (p .0) 0
+
+  mask-kept : (p : Port) → Told w → Kept n (guestStep w (performMask n (w .guest) (w .memory) p)) h
+  unfolding performMask maskOf codeOf
+  mask-kept p told = by-cond (λ x. Kept n (guestStep w (performMasking (w .guest) (w .memory) x)) h) (not (isPort n (p .0))) (masking.Refused BadPort 0) _
+      (λ e. answered-kept BadPort 0 (λ d. omega arith))
+      (λ e. by-cond (λ x. Kept n (guestStep w (performMasking (w .guest) (w .memory) x)) h) (leb (w .guest .words) (p .0)) (masking.Refused OutsideArray 0) _
+      (λ d. answered-kept OutsideArray 0 (λ z. omega arith))
+      (λ d. masked-kept p (let a : p .0 < w .guest .words = leb-false (w .guest .words) (p .0) d in let b : w .guest .words ≤ arrayWords w = within w told in omega arith)))
+
+  tell-kept : (words : ℕ) → Kept n (guestStep w (guestReplied (tellOf (w .guest) words) Nothing (w .memory))) h
+  unfolding tellOf codeOf
+  tell-kept words = by-cond (λ x. Kept n (guestStep w (guestReplied x Nothing (w .memory))) h) (ltb (w .guest .words) words) (guestAnswered (withWords (w .guest) words) Done) (guestAnswered (w .guest) Done)
+      (λ e. record {
+        good = record { lists = k .lists; inv = k .inv; sizes = k .sizes; fit = k .fit; count = k .count; guestQueue = k .guestQueue; order = order-start (next.Answer Done 0) };
+        bounds = ((λ d. omega arith), tt);
+      })
+      (λ e. answered-kept Done 0 (λ d. omega arith))
+
+  pub guest-start-kept : (s : GuestStart) → Allowed w (step.Guest s) → Kept n (guestStep w (guestStartOf n (w .guest) (w .memory) s)) h
+  unfolding guestStartOf serviceStart
+  guest-start-kept Service told = service-start (isServing (w .guest .call .stage)) refl
+  guest-start-kept (Mask p) told = mask-kept p told
+  guest-start-kept (Tell words) le = tell-kept words

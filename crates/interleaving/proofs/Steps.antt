@@ -1,0 +1,115 @@
+-- Every step keeps the invariant, and so does every list of steps.
+-- Assumes nothing.
+use mathlib.Core.Path.{_≡_, refl, ap, _∙_}
+use mathlib.Core.Bool.{Bool, true, false}
+use mathlib.Core.List.{List, [], _∷_, _++_, append-nil, append-assoc}
+use Prim.Native.Nat.{ℕ}
+use native.Mathlib.Omega.{arith}
+use Rattle.word.specs.Word.{Width}
+use Rattle.calls.specs.declared.types.Answer.the-variants.{NoCall}
+use Rattle.calls.specs.declared.types.Next.the-variants as next
+use Rattle.calls.specs.declared.types.Stage.{Stage}
+use Rattle.calls.specs.declared.types.Stage.the-variants as stage
+use Rattle.calls.specs.declared.types.Domain.{Domain}
+use Rattle.calls.specs.declared.types.Guest.{Guest}
+use Rattle.calls.specs.Answers.{codeOf}
+use Rattle.calls.specs.Records.{isFree}
+use Rattle.calls.specs.Hypervisor.{turn, answered, nextOf, dueOf, replyOf}
+use Rattle.calls.specs.Guest.{isServing, guestAnswered, guestNext, guestDueOf, serviceReply}
+use Rattle.machine.specs.Exec.{World, started, startStep, hypervisorStep, hypervisorReplied, guestStep, guestReplied, performSide, performHypervisorNext, performHypervisor, performGuestNext, performGuest, handBack, advanceOf, exec, execAll}
+use Rattle.machine.specs.declared.types.Side.the-variants as side
+use Rattle.machine.specs.declared.types.Step.{Step}
+use Rattle.machine.specs.declared.types.Step.the-variants as step
+use Rattle.machine.specs.declared.types.Event.{Event}
+use Rattle.machine.specs.declared.types.Event.the-variants.{Nothing}
+use Rattle.queue.proofs.Cases.{clash}
+use Rattle.interleaving.specs.Held.{isLinking}
+use Rattle.interleaving.specs.Bounds.{Bounds}
+use Rattle.interleaving.specs.Rules.{Told, Allowed, KeepsRules}
+use Rattle.interleaving.proofs.Good.{Good, Kept}
+use Rattle.interleaving.proofs.Carried.{atStage}
+use Rattle.interleaving.proofs.FirstAccess.{first-kept}
+use Rattle.interleaving.proofs.LinkAccess.{isFirst, link-kept}
+use Rattle.interleaving.proofs.ServiceAccess.{service-kept}
+use Rattle.interleaving.proofs.Starts.{refused-kept, start-kept}
+use Rattle.interleaving.proofs.GuestStarts.{answered-kept, guest-start-kept}
+
+-- ---- where no call is under way, the reply is 16
+due-free : (n : ℕ) (d : Domain) → isFree (d .call .owner) ≡ true → dueOf n d ≡ next.Answer NoCall 0
+unfolding nextOf
+due-free n d e = rw e
+
+due-none : (n : ℕ) (g : Guest) → isServing (g .call .stage) ≡ false → guestDueOf n g ≡ next.Answer NoCall 0
+unfolding guestNext
+due-none n g e = rw e
+
+module _ (n : ℕ) (w : World) where
+  reply-free : (word : ℕ) → isFree (w .domain .call .owner) ≡ true → replyOf n (w .domain) (w .ledger) word ≡ turn (answered (w .domain) NoCall) (w .ledger)
+  unfolding replyOf
+  reply-free word e = rw e
+
+  perform-free : isFree (w .domain .call .owner) ≡ true → performSide n w side.Hypervisor ≡ startStep w (started (answered (w .domain) NoCall) (w .ledger) (w .memory .words))
+  unfolding performSide performHypervisor
+  perform-free e = ap (λ x. hypervisorStep w (performHypervisorNext n (w .domain) (w .ledger) (w .memory) x)) (due-free n (w .domain) e) ∙ ap (λ t. hypervisorStep w (hypervisorReplied t Nothing (w .memory))) (reply-free 0 e)
+
+  reply-none : (word : ℕ) → isServing (w .guest .call .stage) ≡ false → serviceReply n (w .guest) word ≡ guestAnswered (w .guest) NoCall
+  unfolding serviceReply
+  reply-none word e = rw e
+
+  perform-none : isServing (w .guest .call .stage) ≡ false → performSide n w side.Guest ≡ guestStep w (guestReplied (guestAnswered (w .guest) NoCall) Nothing (w .memory))
+  unfolding performSide performGuest
+  perform-none e = ap (λ x. guestStep w (performGuestNext n (w .guest) (w .memory) x)) (due-none n (w .guest) e) ∙ ap (λ o. guestStep w (guestReplied o Nothing (w .memory))) (reply-none 0 e)
+
+module _ {n : ℕ} (wide : Width n) (w : World) (h : List Event) where
+  -- only a raise or unmask makes R2 to R6
+  later-kept : (s : Stage) → Good n (atStage w (w .domain .call .owner) s) h → isFirst s ≡ false → Kept n (performSide n (atStage w (w .domain .call .owner) s) side.Hypervisor) h
+  later-kept s k e = go (isLinking (w .domain .call .owner)) refl
+    where
+      go : (b : Bool) → isLinking (w .domain .call .owner) ≡ b → Kept n (performSide n (atStage w (w .domain .call .owner) s) side.Hypervisor) h
+      go true d = link-kept wide w h (w .domain .call .owner) d s k e
+      go false d = clash (ap isFirst (k .fit .linking d)) e
+
+  access-kept : (s : Stage) → Good n (atStage w (w .domain .call .owner) s) h → isFree (w .domain .call .owner) ≡ false → Kept n (performSide n (atStage w (w .domain .call .owner) s) side.Hypervisor) h
+  access-kept stage.First k f = first-kept wide w h (w .domain .call .owner) k f
+  access-kept stage.R2 k f = later-kept stage.R2 k refl
+  access-kept stage.R3 k f = later-kept stage.R3 k refl
+  access-kept stage.R4 k f = later-kept stage.R4 k refl
+  access-kept stage.R5 k f = later-kept stage.R5 k refl
+  access-kept stage.R6 k f = later-kept stage.R6 k refl
+
+  module _ (k : Good n w h) where
+    perform-kept : (b : Bool) → isFree (w .domain .call .owner) ≡ b → Kept n (performSide n w side.Hypervisor) h
+    unfolding codeOf
+    perform-kept true e = rw (perform-free n w e) (refused-kept wide w h k NoCall (λ d. omega arith))
+    perform-kept false e = access-kept (w .domain .call .stage) k e
+
+    serve-kept : (b : Bool) → isServing (w .guest .call .stage) ≡ b → Told w → Kept n (performSide n w side.Guest) h
+    unfolding codeOf
+    serve-kept true e told = service-kept wide w h (w .guest .call .stage) told k e
+    serve-kept false e told = rw (perform-none n w e) (answered-kept wide w h k NoCall 0 (λ d. omega arith))
+
+    pub step-kept : (s : Step) → Allowed w s → Kept n (advanceOf n w s) h
+    unfolding advanceOf handBack codeOf
+    step-kept (step.Hypervisor s) a = start-kept wide w h k s
+    step-kept (step.Guest s) a = guest-start-kept wide w h k s a
+    step-kept (step.Perform side.Hypervisor) a = perform-kept (isFree (w .domain .call .owner)) refl
+    step-kept (step.Perform side.Guest) a = serve-kept (isServing (w .guest .call .stage)) refl a
+    step-kept (step.HandBack side.Hypervisor word) a = rw (reply-free n w word a) (refused-kept wide w h k NoCall (λ d. omega arith))
+    step-kept (step.HandBack side.Guest word) a = rw (reply-none n w word a) (answered-kept wide w h k NoCall 0 (λ d. omega arith))
+
+bounds-append : (a b : List Event) → Bounds a → Bounds b → Bounds (a ++ b)
+bounds-append [] b x y = y
+bounds-append (e ∷ a) b x y = (x .0, bounds-append a b (x .1) y)
+
+-- a list of steps, from any history
+pub record KeptAll (n : ℕ) (w : World) (h : List Event) (ss : List Step) : Type 0 where
+  pub good : Good n (execAll n w ss .world) (h ++ execAll n w ss .events)
+  pub bounds : Bounds (execAll n w ss .events)
+
+pub steps-kept : {n : ℕ} → Width n → (w : World) (h : List Event) (ss : List Step) → Good n w h → KeepsRules n w ss → KeptAll n w h ss
+unfolding execAll
+steps-kept wide w h [] k a = record { good = rw (append-nil h) k; bounds = tt }
+steps-kept {n} wide w h (s ∷ ss) k a =
+    let one = step-kept wide w h k s (a .0) in
+    let rest = steps-kept wide (exec n w s .world) (h ++ exec n w s .events) ss (one .good) (a .1) in
+    record { good = rw (← (append-assoc h (exec n w s .events) (execAll n (exec n w s .world) ss .events))) (rest .good); bounds = bounds-append (exec n w s .events) _ (one .bounds) (rest .bounds) }

@@ -1,0 +1,8 @@
+pub mod Fresh
+pub mod Rules
+pub mod Histories
+pub mod Standing
+pub mod Held
+pub mod Claim
+pub mod Bounds
+pub mod Demand3

@@ -1,0 +1,48 @@
+/* A host that binds port 5, raises it and serves it. */
+#include <stdio.h>
+
+#include "evtchn_fifo_atomic.h"
+
+static uint32_t page[EVTCHN_FIFO_PAGE_WORDS], control[EVTCHN_FIFO_CONTROL_WORDS];
+static uint32_t *const pages[] = {page};
+static const evtchn_fifo_shared shared = {control, pages, EVTCHN_FIFO_PAGE_WORDS};
+static evtchn_fifo_domain domain;
+static evtchn_fifo_guest guest;
+static uint16_t ledger[4096];
+
+/* The hypervisor's call, from its start to its answer. */
+static evtchn_fifo_next run(evtchn_fifo_next next)
+{
+    uint32_t seen;
+    while (evtchn_fifo_perform(&shared, next, &seen))
+        next = evtchn_fifo_domain_reply(&domain, ledger, 4096, seen);
+    return next;
+}
+
+/* The guest's service of one event. */
+static evtchn_fifo_next serve(void)
+{
+    evtchn_fifo_next next = evtchn_fifo_guest_service(&guest);
+    uint32_t seen;
+    while (evtchn_fifo_perform(&shared, next, &seen))
+        next = evtchn_fifo_guest_service_reply(&guest, seen);
+    return next;
+}
+
+int main(void)
+{
+    evtchn_fifo_next next;
+    evtchn_fifo_domain_fresh(&domain);
+    evtchn_fifo_guest_fresh(&guest);
+    evtchn_fifo_ledger_fresh(ledger, 4096);
+    evtchn_fifo_domain_init_control(&domain, 0, 0x1000, 0x2000, 0);
+    evtchn_fifo_domain_expand_array(&domain, 0x1001, 0x2000);
+    evtchn_fifo_guest_tell(&guest, EVTCHN_FIFO_PAGE_WORDS);
+
+    run(evtchn_fifo_domain_bind(&domain, ledger, 4096, 5));
+    next = run(evtchn_fifo_domain_raise(&domain, ledger, 4096, 5));
+    printf("raise: answer %u after %u accesses\n", (unsigned)next.code, (unsigned)next.value);
+    next = serve();
+    printf("service: answer %u, port %u\n", (unsigned)next.code, (unsigned)next.index);
+    return 0;
+}

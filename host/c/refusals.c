@@ -1,0 +1,321 @@
+/*
+ * Every refusal of document 01, in each call's order: an input that fails every test gets the first number; once that is put
+ * right, the next; and so on to the call's success. A refusal leaves every byte of record and ledger as it was.
+ */
+#include <string.h>
+
+#include "check.h"
+#include "evtchn_fifo.h"
+
+#define ENTRIES (EVTCHN_FIFO_PORTS + 1u)
+
+/* the records at odd addresses, with bytes that no call writes around them */
+static uint8_t domain_buffer[EVTCHN_FIFO_DOMAIN_SIZE + 8], domain_copy[sizeof domain_buffer];
+static uint8_t guest_buffer[EVTCHN_FIFO_GUEST_SIZE + 8], guest_copy[sizeof guest_buffer];
+static uint8_t ledger_buffer[ENTRIES * 2u + 8], ledger_copy[sizeof ledger_buffer];
+static uint8_t *const domain = domain_buffer + 3, *const guest = guest_buffer + 3, *const ledger = ledger_buffer + 3;
+
+static struct input {
+    uint64_t port, priority, vcpu, frame, frames, offset, words;
+    size_t entries;
+    uint32_t seen;
+} in;
+
+static void put(uint8_t *bytes, size_t at, uint32_t value)
+{
+    bytes[at] = (uint8_t)value;
+    bytes[at + 1] = (uint8_t)(value >> 8);
+    bytes[at + 2] = (uint8_t)(value >> 16);
+    bytes[at + 3] = (uint8_t)(value >> 24);
+}
+
+static void put_entry(uint32_t port, uint32_t entry)
+{
+    ledger[2 * port] = (uint8_t)entry;
+    ledger[2 * port + 1] = (uint8_t)(entry >> 8);
+}
+
+enum { GIVEN = 0, PAGES = 4, OWNER = 72, STAGE = 76, PORT = 80, COUNT = 96, GUEST_STAGE = 72, GUEST_WORDS = 68 };
+
+typedef evtchn_fifo_next call(void);
+
+static evtchn_fifo_next init_control(void) { return evtchn_fifo_init_control(domain, EVTCHN_FIFO_DOMAIN_SIZE, in.vcpu, in.frame, in.frames, in.offset); }
+static evtchn_fifo_next expand_array(void) { return evtchn_fifo_expand_array(domain, EVTCHN_FIFO_DOMAIN_SIZE, in.frame, in.frames); }
+static evtchn_fifo_next bind(void) { return evtchn_fifo_bind(domain, EVTCHN_FIFO_DOMAIN_SIZE, ledger, in.entries * 2, in.port); }
+static evtchn_fifo_next close(void) { return evtchn_fifo_close(domain, EVTCHN_FIFO_DOMAIN_SIZE, ledger, in.entries * 2, in.port); }
+static evtchn_fifo_next set_priority(void) { return evtchn_fifo_set_priority(domain, EVTCHN_FIFO_DOMAIN_SIZE, ledger, in.entries * 2, in.port, in.priority); }
+static evtchn_fifo_next raise(void) { return evtchn_fifo_raise(domain, EVTCHN_FIFO_DOMAIN_SIZE, ledger, in.entries * 2, in.port); }
+static evtchn_fifo_next unmask(void) { return evtchn_fifo_unmask(domain, EVTCHN_FIFO_DOMAIN_SIZE, ledger, in.entries * 2, in.port); }
+static evtchn_fifo_next reply(void) { return evtchn_fifo_reply(domain, EVTCHN_FIFO_DOMAIN_SIZE, ledger, in.entries * 2, in.seen); }
+static evtchn_fifo_next due(void) { return evtchn_fifo_due(domain, EVTCHN_FIFO_DOMAIN_SIZE); }
+static evtchn_fifo_next service(void) { return evtchn_fifo_service(guest, EVTCHN_FIFO_GUEST_SIZE); }
+static evtchn_fifo_next service_reply(void) { return evtchn_fifo_service_reply(guest, EVTCHN_FIFO_GUEST_SIZE, in.seen); }
+static evtchn_fifo_next service_due(void) { return evtchn_fifo_service_due(guest, EVTCHN_FIFO_GUEST_SIZE); }
+static evtchn_fifo_next mask(void) { return evtchn_fifo_mask(in.port, in.words); }
+
+static void keep(void)
+{
+    memcpy(domain_copy, domain_buffer, sizeof domain_buffer);
+    memcpy(guest_copy, guest_buffer, sizeof guest_buffer);
+    memcpy(ledger_copy, ledger_buffer, sizeof ledger_buffer);
+}
+
+static int kept(void)
+{
+    return memcmp(domain_copy, domain_buffer, sizeof domain_buffer) == 0 && memcmp(guest_copy, guest_buffer, sizeof guest_buffer) == 0 &&
+           memcmp(ledger_copy, ledger_buffer, sizeof ledger_buffer) == 0;
+}
+
+/* a refusal: its number, count 0, and every byte as it was */
+static void refused_at(int line, call *f, uint32_t code)
+{
+    evtchn_fifo_next next;
+    keep();
+    next = f();
+    check_at(__FILE__, line, "refused with its number", next.code == code && next.index == 0 && next.value == 0 && next.old == 0);
+    check_at(__FILE__, line, "a refusal keeps every byte", kept());
+}
+
+#define REFUSED(f, code) refused_at(__LINE__, f, code)
+
+/* bytes of no use: a given of 2, codes of no owner or stage, numbers in every field */
+static void fill(void)
+{
+    size_t k;
+    for (k = 0; k < sizeof domain_buffer; k++)
+        domain_buffer[k] = (uint8_t)(k * 37 + 11);
+    for (k = 0; k < sizeof guest_buffer; k++)
+        guest_buffer[k] = (uint8_t)(k * 53 + 7);
+    for (k = 0; k < sizeof ledger_buffer; k++)
+        ledger_buffer[k] = (uint8_t)(k * 29 + 5);
+    memset(&in, 0, sizeof in);
+    put(domain, STAGE, 0);
+}
+
+static void init_row(void)
+{
+    fill();
+    put(domain, OWNER, 3);
+    put(domain, GIVEN, 2);
+    in.vcpu = UINT64_C(0x100000000);
+    in.frame = 9;
+    in.frames = 9;
+    in.offset = 4020;
+    REFUSED(init_control, 15);
+    put(domain, OWNER, 5);
+    REFUSED(init_control, 17);
+    in.vcpu = 1;
+    REFUSED(init_control, 17);
+    in.vcpu = 0;
+    REFUSED(init_control, 9);
+    put(domain, GIVEN, 0);
+    REFUSED(init_control, 11);
+    in.frame = UINT64_C(0xFFFFFFFFFFFFFFFF);
+    REFUSED(init_control, 11);
+    in.frame = UINT64_C(0x100000000);
+    in.frames = UINT64_C(0x100000001);
+    REFUSED(init_control, 12);
+    in.offset = 4028;
+    REFUSED(init_control, 12);
+    in.offset = 4032;
+    REFUSED(init_control, 12);
+    in.offset = UINT64_C(0x100000000);
+    REFUSED(init_control, 12);
+    in.offset = 4024;
+    {
+        evtchn_fifo_next next = init_control();
+        CHECK(next.code == 0 && next.index == 17 && next.value == 0);
+    }
+    REFUSED(init_control, 9);
+}
+
+static void expand_row(void)
+{
+    fill();
+    put(domain, OWNER, 1);
+    put(domain, GIVEN, 0);
+    put(domain, PAGES, 200);
+    REFUSED(expand_array, 15);
+    put(domain, STAGE, 6);
+    REFUSED(expand_array, 10);
+    put(domain, GIVEN, 0x80000000u);
+    REFUSED(expand_array, 13);
+    put(domain, PAGES, 128);
+    REFUSED(expand_array, 13);
+    put(domain, PAGES, 127);
+    REFUSED(expand_array, 11);
+    in.frames = 1;
+    CHECK(expand_array().code == 0);
+    REFUSED(expand_array, 13);
+}
+
+/* 15, 10, 3, 14, then the call's own; leaves an accepted port 2000 with an entry, not bound, outside one page */
+static void port_rows(call *f)
+{
+    fill();
+    put(domain, OWNER, 4);
+    put(domain, GIVEN, 0);
+    put(domain, PAGES, 1);
+    in.port = UINT64_C(0x1000007D0);
+    in.entries = 10;
+    in.priority = UINT64_C(0x100000000);
+    REFUSED(f, 15);
+    put(domain, OWNER, 0);
+    REFUSED(f, 10);
+    put(domain, GIVEN, 1);
+    REFUSED(f, 3);
+    in.port = 0;
+    REFUSED(f, 3);
+    in.port = EVTCHN_FIFO_PORTS;
+    in.entries = ENTRIES;
+    REFUSED(f, 3);
+    in.port = EVTCHN_FIFO_PORTS - 1;
+    in.entries = EVTCHN_FIFO_PORTS - 1;
+    REFUSED(f, 14);
+    in.port = 2000;
+    in.entries = 2000;
+    REFUSED(f, 14);
+    in.entries = 2001;
+    put_entry(2000, 0xFC07);
+}
+
+static void bind_row(void)
+{
+    port_rows(bind);
+    put_entry(2000, 0xFD07);
+    REFUSED(bind, 5);
+    put_entry(2000, 0xFC07);
+    CHECK(bind().code == 0 && ledger[4000] == 0x07 && ledger[4001] == 0xFD);
+}
+
+static void close_row(void)
+{
+    port_rows(close);
+    REFUSED(close, 4);
+    put_entry(2000, 0xFF73);
+    CHECK(close().code == 0 && ledger[4000] == 0x77 && ledger[4001] == 0xFE);
+}
+
+static void priority_row(void)
+{
+    port_rows(set_priority);
+    REFUSED(set_priority, 8);
+    in.priority = 16;
+    REFUSED(set_priority, 8);
+    in.priority = 15;
+    CHECK(set_priority().code == 0 && ledger[4000] == 0x0F && ledger[4001] == 0xFC);
+}
+
+static void link_row(call *f, uint32_t first)
+{
+    port_rows(f);
+    REFUSED(f, 4);
+    put_entry(2000, 0xFD07);
+    REFUSED(f, 6);
+    put(domain, PAGES, 2);
+    CHECK(f().code == first);
+    REFUSED(f, 15);
+    CHECK(due().code == first);
+}
+
+/* 16 and 14 at every stage; the call is under way as before */
+static void reply_row(void)
+{
+    uint32_t owner, stage;
+    fill();
+    in.entries = ENTRIES;
+    put(domain, OWNER, 0);
+    REFUSED(reply, 16);
+    REFUSED(due, 16);
+    put(domain, OWNER, 5);
+    REFUSED(reply, 16);
+    put(domain, OWNER, 3);
+    put(domain, STAGE, 6);
+    REFUSED(reply, 16);
+    put(domain, PORT, 700);
+    in.entries = 700;
+    for (owner = 1; owner <= 4; owner++)
+        for (stage = 0; stage <= 5; stage++) {
+            put(domain, OWNER, owner);
+            put(domain, STAGE, stage);
+            REFUSED(reply, 14);
+        }
+    put(domain, STAGE, 5);
+    put(domain, COUNT, 0xFFFFFFFFu);
+    in.entries = 701;
+    in.seen = 0;
+    {
+        evtchn_fifo_next next = reply();
+        CHECK(next.code == 1 && next.value == 0xFFFFFFFFu);
+    }
+    REFUSED(reply, 16);
+}
+
+static void guest_rows(void)
+{
+    fill();
+    put(guest, GUEST_STAGE, 6);
+    REFUSED(service_reply, 16);
+    REFUSED(service_due, 16);
+    put(guest, GUEST_STAGE, 3);
+    REFUSED(service, 15);
+    put(guest, GUEST_STAGE, 0);
+    CHECK(service().code == 0x141);
+    REFUSED(service, 15);
+    /* 18 by HEAD 0 and by HEAD outside, by H outside; it ends the service */
+    evtchn_fifo_fresh_guest(guest, EVTCHN_FIFO_GUEST_SIZE);
+    CHECK(evtchn_fifo_tell(guest, EVTCHN_FIFO_GUEST_SIZE, 1024).code == 0);
+    service();
+    in.seen = 0xFFFF0080u;
+    CHECK(service_reply().code == 0x102);
+    in.seen = 0x00020005u;
+    {
+        evtchn_fifo_next next = service_reply();
+        CHECK(next.code == 18 && next.value == 2);
+    }
+    REFUSED(service_reply, 16);
+    put(guest, 28, 2000);
+    put(guest, 64, 0x80);
+    service();
+    in.seen = 0x180;
+    {
+        evtchn_fifo_next next = service_reply();
+        CHECK(next.code == 18 && next.value == 1 && guest[64] == 0 && guest[65] == 1 && guest[28] == 0 && guest[29] == 0);
+    }
+}
+
+static void mask_row(void)
+{
+    fill();
+    in.port = UINT64_C(0x100000005);
+    in.words = 5;
+    REFUSED(mask, 3);
+    in.port = 0;
+    REFUSED(mask, 3);
+    in.port = EVTCHN_FIFO_PORTS;
+    in.words = 200000;
+    REFUSED(mask, 3);
+    in.port = EVTCHN_FIFO_PORTS - 1;
+    in.words = EVTCHN_FIFO_PORTS - 1;
+    REFUSED(mask, 6);
+    in.words = UINT64_C(0xFFFFFFFFFFFFFFFF);
+    {
+        evtchn_fifo_next next = mask();
+        CHECK(next.code == 0x120 && next.index == EVTCHN_FIFO_PORTS - 1 && next.value == 0x40000000u);
+    }
+}
+
+int main(void)
+{
+    init_row();
+    expand_row();
+    bind_row();
+    close_row();
+    priority_row();
+    link_row(raise, 0x120);
+    link_row(unmask, 0x130);
+    reply_row();
+    guest_rows();
+    mask_row();
+    return check_end();
+}
