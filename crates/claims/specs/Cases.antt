@@ -1,8 +1,7 @@
 -- What a case of document 01 is, and when it holds: steps run by `exec`, and what must be seen of them.
 -- Assumes nothing.
 use Prim.Native.Nat.{ℕ, _+_}
-use mathlib.Core.Bool.{cond}
-use mathlib.Core.List.{List, [], _∷_, _++_}
+use mathlib.Core.List.{List, [], _∷_}
 use lib.ListN.{getD, replicate}
 use Rattle.word.specs.Word.{linkBits}
 use Rattle.word.specs.Entry.{freshEntry}

@@ -8,7 +8,6 @@ use Rattle.calls.specs.declared.types.Place.the-variants.{Word, Ready, Head}
 use Rattle.calls.specs.declared.types.Access.{Access}
 use Rattle.calls.specs.declared.types.Access.the-variants.{Read, Store, Or, And, Swap, Cas}
 use Rattle.calls.specs.declared.types.Answer.the-variants.{Done, UpcallWanted, LinkAbandoned, StillLinked, NoCall, HandedOver, NothingReady, Taken}
-use Rattle.calls.specs.declared.types.Next.{Next}
 use Rattle.calls.specs.declared.types.Next.the-variants as next
 use Rattle.machine.specs.declared.types.Side.the-variants as side
 use Rattle.machine.specs.declared.types.Start.the-variants.{InitControl, ExpandArray, Bind, Close, SetPriority, Raise, Unmask}
