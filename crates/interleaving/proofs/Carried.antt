@@ -30,7 +30,7 @@ use Rattle.machine.specs.Exec.{World, Advanced, hypervisorStep, hypervisorRepli
 use Rattle.machine.specs.declared.types.Side.the-variants as side
 use Rattle.machine.specs.declared.types.Event.{Event}
 use Rattle.machine.specs.declared.types.Event.the-variants.{HypervisorAccess}
-use Rattle.queue.specs.Model.{Word, Call, alone, withWords}
+use Rattle.queue.specs.Model.{Word, Call, GuestCall, alone, withWords}
 use Rattle.queue.specs.Update.{update}
 use Rattle.queue.specs.Stages.{After, put}
 use Rattle.queue.specs.Budget.{mostTries, madeBy}
@@ -52,21 +52,35 @@ atStage w o s = record {
   memory = w .memory;
 }
 
+-- port and queue of the hypervisor's call, its queue's tail, and the port's ledger entry
+abbrev pub portOf : World → ℕ
+portOf w = w .domain .call .port .0
+
+abbrev pub queueOf : World → ℕ
+queueOf w = w .domain .call .queue .0
+
+abbrev pub tailOf : World → ℕ
+tailOf w = getD (w .domain .tails) (queueOf w) 0
+
+abbrev pub entryOf : World → ℕ
+entryOf w = getD (w .ledger) (portOf w) 0
+
+-- the guests' calls, of which there is one
+abbrev pub guestsOf : World → ℕ → GuestCall
+guestsOf w = alone (guestCallOf (w .guest .call))
+
 -- an access that sees `seen` and leaves memory m, and the reply's move
 abbrev pub carried : ℕ → World → Access → ℕ → Memory → Move → Advanced
 carried n w a seen m mv = hypervisorStep w (hypervisorReplied (carriedOut n (w .domain) (w .ledger) mv) (HypervisorAccess (w .domain .call) a seen) m)
 
-abbrev pub entryOf : World → ℕ
-entryOf w = getD (w .ledger) (w .domain .call .port .0) 0
-
 abbrev pub dueAccess : ℕ → World → Access
-dueAccess n w = due n (w .domain .call) (getD (w .domain .tails) (w .domain .call .queue .0) 0)
+dueAccess n w = due n (w .domain .call) (tailOf w)
 
-pub perform-carried : (n : ℕ) (w : World) → isFree (w .domain .call .owner) ≡ false → w .domain .call .port .0 < length (w .ledger)
+pub perform-carried : (n : ℕ) (w : World) → isFree (w .domain .call .owner) ≡ false → portOf w < length (w .ledger)
     → performSide n w side.Hypervisor ≡ carried n w (dueAccess n w) (performed (w .memory) (dueAccess n w) .seen) (performed (w .memory) (dueAccess n w) .memory)
     (staged (w .domain .call) (entryOf w) (hypervisor.viewOf (w .domain) (entryOf w)) (performed (w .memory) (dueAccess n w) .seen))
 unfolding performSide performHypervisor nextOf replyOf entryAt
-perform-carried n w e h = simp (e, lt-ltb (w .domain .call .port .0) (length (w .ledger)) h)
+perform-carried n w e h = simp (e, lt-ltb (portOf w) (length (w .ledger)) h)
 
 -- what a reply makes of the call
 pub record Moves (n entries : ℕ) (c : calls.Call) (to : Call) (mv : Move) : Type 0 where
@@ -82,44 +96,48 @@ pub record Quiet (e : ℕ) (mv : Move) : Type 0 where
   pub lastQueue : lastQueue (mv .entry) ≡ lastQueue e
   pub everLinked : everLinked (mv .entry) ≡ everLinked e
 
+pub record QuietMoves (n entries e : ℕ) (c : calls.Call) (to : Call) (mv : Move) : Type 0 where
+  pub moves : Moves n entries c to mv
+  pub quiet : Quiet e mv
+
 pub answer-bounds : (n : ℕ) (d : Domain) (a : Answer) (count : ℕ) → AnswerBounds a count → Bounds (listOf (hypervisorAnswer (nextOf n d a count)))
 unfolding nextOf
 answer-bounds n d a count b = by-cond (λ x. Bounds (listOf (hypervisorAnswer x))) (isFree (d .call .owner)) (next.Answer a count) (next.Access (due n (d .call) (getD (d .tails) (d .call .queue .0) 0)))
     (λ e. (b, tt)) (λ e. tt)
 
 module _ {n : ℕ} (w : World) (h : List Event) {c : Call} (k : Core n w c (guestCallOf (w .guest .call)) h) (acc : Access) (seen : ℕ) (m : Memory) (mv : Move) where
-  pub kept : (a : After Call) → Keeps a (alone (guestCallOf (w .guest .call)))
-      → viewBy n (w .domain .pages) (m .words) (m .block) (set (w .domain .tails) (mv .queue .0) (mv .tail)) (set (w .ledger) (w .domain .call .port .0) (mv .entry)) (w .guest .heads) (w .guest .ready) ≡ a .view
+  pub kept : (a : After Call) → Keeps a (guestsOf w)
+      → viewBy n (w .domain .pages) (m .words) (m .block) (set (w .domain .tails) (mv .queue .0) (mv .tail)) (set (w .ledger) (portOf w) (mv .entry)) (w .guest .heads) (w .guest .ready) ≡ a .view
       → Moves n (length (w .ledger)) (w .domain .call) (a .call) mv
       → Sizes n (w .domain .pages) (m .words) (m .block) (w .domain .tails) (w .guest .heads)
       → madeBy c < madeBy (a .call) → madeBy c < 5 + mostTries
       → InOrder (h ++ HypervisorAccess (w .domain .call) acc seen ∷ []) (a .lists)
-      → AccessBounds (w .domain .call) seen
+      → (w .domain .call .count ≤ 5 + mostTries → AccessBounds (w .domain .call) seen)
       → Kept n (carried n w acc seen m mv) h
   unfolding moved
   kept a inv view moves sizes less few order bounds = record {
     good = record {
       lists = a .lists;
-      inv = subst (λ v. Inv v (callOf n (mv .call)) (alone (guestCallOf (w .guest .call))) (a .lists)) (sym view) (rw (moves .call) inv);
+      inv = subst (λ v. Inv v (callOf n (mv .call)) (guestsOf w) (a .lists)) (sym view) (rw (moves .call) inv);
       sizes = record { array = sizes .array; lent = sizes .lent; small = sizes .small; block = sizes .block; tails = simp length-set (sizes .tails); heads = sizes .heads };
-      fit = rw (length-set (w .ledger) (w .domain .call .port .0) (mv .entry)) (moves .fit);
+      fit = rw (length-set (w .ledger) (portOf w) (mv .entry)) (moves .fit);
       count = rw (moves .call) (let a = k .count in let b = moves .more in omega arith);
       guestQueue = k .guestQueue;
       order = order-answer h (HypervisorAccess (w .domain .call) acc seen ∷ []) (a .lists) order (nextOf n (moved (w .domain) mv) (mv .answer) (mv .count));
     };
-    bounds = (bounds, answer-bounds n _ (mv .answer) (mv .count) (record { linkNotAbandoned = moves .answer; accesses = let a = k .count in let b = moves .count in omega arith }));
+    bounds = (bounds (let a = k .count in omega arith), answer-bounds n _ (mv .answer) (mv .count) (record { linkNotAbandoned = moves .answer; accesses = let a = k .count in let b = moves .count in omega arith }));
   }
 
 module _ {n : ℕ} (w : World) (h : List Event) {c : Call} (k : Core n w c (guestCallOf (w .guest .call)) h) (m : Memory) (mv : Move) where
   -- the view where no tail changes, the words are f, and HEADs and READY are as before
   pub quiet-view : (f : ℕ → Word) → ((x : ℕ) → decoded n (getD (m .words) x 0) ≡ f x) → m .block ≡ w .memory .block → Quiet (entryOf w) mv
-      → viewBy n (w .domain .pages) (m .words) (m .block) (set (w .domain .tails) (mv .queue .0) (mv .tail)) (set (w .ledger) (w .domain .call .port .0) (mv .entry)) (w .guest .heads) (w .guest .ready) ≡ withWords f (viewOf n w)
+      → viewBy n (w .domain .pages) (m .words) (m .block) (set (w .domain .tails) (mv .queue .0) (mv .tail)) (set (w .ledger) (portOf w) (mv .entry)) (w .guest .heads) (w .guest .ready) ≡ withWords f (viewOf n w)
   quiet-view f e b q = agree (record {
     word = e;
     size = refl;
     tail = λ r. ap (λ l. getD l r 0) (set-out (w .domain .tails) (mv .queue .0) (mv .tail) (omega (arith, k .sizes .tails, q .queue)));
-    lastQueue = set-blind lastQueue (w .ledger) (w .domain .call .port .0) (mv .entry) (q .lastQueue);
-    everLinked = set-blind everLinked (w .ledger) (w .domain .call .port .0) (mv .entry) (q .everLinked);
+    lastQueue = set-blind lastQueue (w .ledger) (portOf w) (mv .entry) (q .lastQueue);
+    everLinked = set-blind everLinked (w .ledger) (portOf w) (mv .entry) (q .everLinked);
     head = λ r. rw b;
     ready = λ r. rw b;
     guestHead = λ r. refl;
@@ -140,6 +158,10 @@ sizes-word {n} {pages} {words} s p x h = record {
   heads = s .heads;
 }
 
+-- a word of the control block is written
+pub sizes-block : {n pages : ℕ} {words block tails heads : List ℕ} → Sizes n pages words block tails heads → (i x : ℕ) → Sizes n pages words (set block i x) tails heads
+sizes-block s i x = record { array = s .array; lent = s .lent; small = s .small; block = simp length-set (s .block); tails = s .tails; heads = s .heads }
+
 pub in-words : {n pages : ℕ} {words block tails heads : List ℕ} → Sizes n pages words block tails heads → (p : ℕ) → p < 1024 * pages → p < length words
 in-words s p h = let a = s .array in let b = s .lent in omega arith
 
@@ -152,8 +174,8 @@ isBounded stage.R4 = true
 isBounded stage.R5 = false
 isBounded stage.R6 = true
 
-pub no-bounds : (c : calls.Call) (seen : ℕ) → isBounded (c .stage) ≡ false → AccessBounds c seen
-no-bounds c seen e = record { fewTries = λ d. clash (ap isBounded d) e; bitClear = λ d. clash (ap isBounded d) e }
+pub no-bounds : (c : calls.Call) (seen : ℕ) → isBounded (c .stage) ≡ false → c .count ≤ 5 + mostTries → AccessBounds c seen
+no-bounds c seen e l = record { accesses = l; fewTries = λ d. clash (ap isBounded d) e; bitClear = λ d. clash (ap isBounded d) e }
 
 abbrev isR6 : Stage → Bool
 isR6 stage.First = false
@@ -163,29 +185,29 @@ isR6 stage.R4 = false
 isR6 stage.R5 = false
 isR6 stage.R6 = true
 
-pub tries-bound : (c : calls.Call) (seen : ℕ) → c .stage ≡ stage.R4 → c .tries ≤ mostTries → AccessBounds c seen
-tries-bound c seen e h = record { fewTries = λ d. h; bitClear = λ d. clash (ap isR6 d) (ap isR6 e) }
+pub tries-bound : (c : calls.Call) (seen : ℕ) → c .stage ≡ stage.R4 → c .tries ≤ mostTries → c .count ≤ 5 + mostTries → AccessBounds c seen
+tries-bound c seen e h l = record { accesses = l; fewTries = λ d. h; bitClear = λ d. clash (ap isR6 d) (ap isR6 e) }
 
-pub bit-bound : (c : calls.Call) (seen : ℕ) → c .stage ≡ stage.R6 → isReady (c .queue .0) seen ≡ false → AccessBounds c seen
-bit-bound c seen e h = record { fewTries = λ d. clash (ap isR6 e) (ap isR6 d); bitClear = λ d. h }
+pub bit-bound : (c : calls.Call) (seen : ℕ) → c .stage ≡ stage.R6 → isReady (c .queue .0) seen ≡ false → c .count ≤ 5 + mostTries → AccessBounds c seen
+bit-bound c seen e h l = record { accesses = l; fewTries = λ d. clash (ap isR6 e) (ap isR6 d); bitClear = λ d. h }
 
 module _ {n : ℕ} (w : World) (h : List Event) {c : Call} (k : Core n w c (guestCallOf (w .guest .call)) h) (acc : Access) (seen p x : ℕ) (mv : Move) (to : Call)
-    (quiet : Quiet (entryOf w) mv) (moves : Moves n (length (w .ledger)) (w .domain .call) to mv) (less : madeBy c < madeBy to) (few : madeBy c < 5 + mostTries)
-    (quietly : (q : ℕ) → takenIn q (HypervisorAccess (w .domain .call) acc seen ∷ []) ≡ []) (bounds : AccessBounds (w .domain .call) seen) where
+    (reply : QuietMoves n (length (w .ledger)) (entryOf w) (w .domain .call) to mv) (less : madeBy c < madeBy to) (few : madeBy c < 5 + mostTries)
+    (quietly : (q : ℕ) → takenIn q (HypervisorAccess (w .domain .call) acc seen ∷ []) ≡ []) (bounds : w .domain .call .count ≤ 5 + mostTries → AccessBounds (w .domain .call) seen) where
   -- word p is written
-  pub put-kept : (y : Word) → p < 1024 * w .domain .pages → x < 2 ^ 32 → decoded n x ≡ y → Inv (put (viewOf n w) p y) to (alone (guestCallOf (w .guest .call))) (k .lists)
+  pub put-kept : (y : Word) → p < 1024 * w .domain .pages → x < 2 ^ 32 → decoded n x ≡ y → Inv (put (viewOf n w) p y) to (guestsOf w) (k .lists)
       → Kept n (carried n w acc seen (memory (set (w .memory .words) p x) (w .memory .block)) mv) h
   put-kept y lt small e i =
       kept w h k acc seen (memory (set (w .memory .words) p x) (w .memory .block)) mv (record { view = put (viewOf n w) p y; call = to; lists = k .lists }) i
       (quiet-view w h k (memory (set (w .memory .words) p x) (w .memory .block)) mv (update (λ r. decoded n (getD (w .memory .words) r 0)) p y)
-      (set-update (decoded n) (w .memory .words) p x y (in-words (k .sizes) p lt) e) refl quiet)
-      moves (sizes-word (k .sizes) p x small) less few (order-quiet h _ (k .lists) (k .order) quietly (λ q. refl)) bounds
+      (set-update (decoded n) (w .memory .words) p x y (in-words (k .sizes) p lt) e) refl (reply .quiet))
+      (reply .moves) (sizes-word (k .sizes) p x small) less few (order-quiet h _ (k .lists) (k .order) quietly (λ q. refl)) bounds
 
   -- word p is read
-  pub read-kept : x ≡ getD (w .memory .words) p 0 → Inv (viewOf n w) to (alone (guestCallOf (w .guest .call))) (k .lists)
+  pub read-kept : x ≡ getD (w .memory .words) p 0 → Inv (viewOf n w) to (guestsOf w) (k .lists)
       → Kept n (carried n w acc seen (memory (set (w .memory .words) p x) (w .memory .block)) mv) h
   read-kept e i =
       let same : set (w .memory .words) p x ≡ w .memory .words = ap (set (w .memory .words) p) e ∙ set-getD (w .memory .words) p 0 in
       kept w h k acc seen (memory (set (w .memory .words) p x) (w .memory .block)) mv (record { view = viewOf n w; call = to; lists = k .lists }) i
-      (quiet-view w h k (memory (set (w .memory .words) p x) (w .memory .block)) mv (λ r. decoded n (getD (w .memory .words) r 0)) (λ r. ap (λ l. decoded n (getD l r 0)) same) refl quiet)
-      moves (subst (λ l. Sizes n (w .domain .pages) l (w .memory .block) (w .domain .tails) (w .guest .heads)) (sym same) (k .sizes)) less few (order-quiet h _ (k .lists) (k .order) quietly (λ q. refl)) bounds
+      (quiet-view w h k (memory (set (w .memory .words) p x) (w .memory .block)) mv (λ r. decoded n (getD (w .memory .words) r 0)) (λ r. ap (λ l. decoded n (getD l r 0)) same) refl (reply .quiet))
+      (reply .moves) (subst (λ l. Sizes n (w .domain .pages) l (w .memory .block) (w .domain .tails) (w .guest .heads)) (sym same) (k .sizes)) less few (order-quiet h _ (k .lists) (k .order) quietly (λ q. refl)) bounds

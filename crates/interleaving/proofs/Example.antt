@@ -8,7 +8,7 @@ use Prim.Native.Nat.{ℕ, _^_, _≤_}
 use lib.Dec.{leb, lit≤}
 use lib.ListN.{length, getD, replicate, length-replicate}
 use borrow.Author.Tests.{leb-true, not-true}
-use Rattle.word.specs.Word.{linkBits, portAt}
+use Rattle.word.specs.Word.{linkBits, linkBits-width, portAt}
 use Rattle.word.specs.Computes.{computes}
 use Rattle.word.specs.Ready.{isReady}
 use Rattle.word.proofs.ReadyLaws.{ready-zero}
@@ -27,9 +27,7 @@ use Rattle.interleaving.specs.Fresh.{freshWorld, arrayWords}
 use Rattle.interleaving.specs.Rules.{tellDue, AllowedByDocument, KeepsDocumentRules}
 use Rattle.interleaving.specs.Histories.{takenIn, givenOut}
 use Rattle.interleaving.specs.Claim.{Rest, Claim}
-use Rattle.interleaving.specs.Demand3.{Demand3}
-use Rattle.interleaving.proofs.Theorem.{demand3-today}
-use Rattle.interleaving.proofs.DocumentRules.{document-rules}
+use Rattle.interleaving.proofs.DocumentRules.{demand3-by-document}
 
 -- `unfolding runs` opens every definition that a step uses
 unfoldable runs : ℕ
@@ -102,8 +100,7 @@ example-rules = pass-rules linkBits false start example refl
 
 -- so demand 3's claim holds of it
 pub example-claim : Claim linkBits (execAll linkBits start example .world) (execAll linkBits start example .events)
-unfolding Demand3
-example-claim = demand3-today lent 16 example lent-enough (document-rules linkBits lent 16 example example-rules)
+example-claim = demand3-by-document linkBits-width lent 16 example lent-enough example-rules
 
 -- what it comes to: taken in and given out of queue 7, both sides' calls, local bits and READY
 record Summary : Type 0 where

@@ -20,6 +20,8 @@ use Rattle.interleaving.specs.Bounds.{Bounds}
 use Rattle.interleaving.proofs.View.{viewOf, callOf, guestCallOf}
 use Rattle.interleaving.proofs.HistoryLaws.{InOrder}
 
+-- the array fits in LINK and in the lent words (R4, every access); its words have 32 bits, so that a cas compares their
+-- fields (R4); control block, tails and heads have a place for each queue
 pub record Sizes (n pages : ℕ) (words control queues guests : List ℕ) : Type 0 where
   pub array : 1024 * pages ≤ 2 ^ n
   pub lent : 2 ^ n ≤ length words
@@ -36,7 +38,8 @@ isR4 stage.R4 = true
 isR4 stage.R5 = false
 isR4 stage.R6 = false
 
--- the hypervisor's call, with a ledger of so many entries
+-- the hypervisor's call, with a ledger of so many entries: its port has one (no 14); its queue is one of the sixteen; R4's
+-- word has 32 bits and a cas is named; only a raise or unmask is past its first access
 pub record Fit (entries : ℕ) (c : calls.Call) : Type 0 where
   pub entry : isFree (c .owner) ≡ false → c .port .0 < entries
   pub queue : c .queue .0 < 16
@@ -44,6 +47,7 @@ pub record Fit (entries : ℕ) (c : calls.Call) : Type 0 where
   pub tries : isR4 (c .stage) ≡ true → 0 < c .tries
   pub linking : isLinking (c .owner) ≡ false → c .stage ≡ stage.First
 
+-- c and g are the calls under way, as the queue level has them
 pub record Core (n : ℕ) (w : World) (c : Call) (g : GuestCall) (h : List Event) : Type 0 where
   pub lists : ℕ → List ℕ
   pub inv : Inv (viewOf n w) c (alone g) lists

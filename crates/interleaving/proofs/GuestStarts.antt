@@ -48,7 +48,7 @@ use Rattle.interleaving.proofs.View.{callOf, guestCallBy, guestCallOf, 
 use Rattle.interleaving.proofs.HistoryLaws.{InOrder, order-quiet, guest-answer-taken, guest-answer-given}
 use Rattle.interleaving.proofs.Good.{Good, Kept}
 use Rattle.interleaving.proofs.Carried.{sizes-word, in-words}
-use Rattle.interleaving.proofs.ServiceAccess.{answer-bounds}
+use Rattle.interleaving.proofs.Served.{answer-bounds}
 
 -- a guest that has been told reaches nothing beyond the array
 within : (w : World) → Told w → w .guest .words ≤ arrayWords w
@@ -67,7 +67,7 @@ none-serving c e = go (c .stage) e
     go guestStage.G3 e = clash refl e
     go guestStage.G4 e = clash refl e
 
-module _ {n : ℕ} (wide : Width n) (w : World) (h : List Event) (k : Good n w h) where
+module _ {n : ℕ} (w : World) (h : List Event) (k : Good n w h) where
   order-start : (x : Next) → InOrder (h ++ listOf (guestAnswer x)) (k .lists)
   order-start x = order-quiet h (listOf (guestAnswer x)) (k .lists) (k .order) (λ q. guest-answer-taken q x) (λ q. guest-answer-given q x)
 
@@ -96,9 +96,9 @@ module _ {n : ℕ} (wide : Width n) (w : World) (h : List Event) (k : Good n w h
   }
 
   -- a mask in the array
-  masked-kept : (p : Port) → p .0 < 1024 * w .domain .pages → Kept n (guestStep w (performMasking (w .guest) (w .memory) (masking.Made (Or (place.Word p) (mask Masked)) Done 1))) h
+  masked-kept : Width n → (p : Port) → p .0 < 1024 * w .domain .pages → Kept n (guestStep w (performMasking (w .guest) (w .memory) (masking.Made (Or (place.Word p) (mask Masked)) Done 1))) h
   unfolding codeOf performed placeOf afterAccess loaded saved
-  masked-kept p inside = record {
+  masked-kept wide p inside = record {
     good = record {
       lists = k .lists;
       inv = subst (λ v. Inv v (callOf n (w .domain .call)) (alone (guestCallOf (w .guest .call))) (k .lists)) (sym (agree (record {
@@ -125,13 +125,13 @@ module _ {n : ℕ} (wide : Width n) (w : World) (h : List Event) (k : Good n w h
       s : ℕ
       s = getD (w .memory .words) (p .0) 0
 
-  mask-kept : (p : Port) → Told w → Kept n (guestStep w (performMask n (w .guest) (w .memory) p)) h
+  mask-kept : Width n → (p : Port) → Told w → Kept n (guestStep w (performMask n (w .guest) (w .memory) p)) h
   unfolding performMask maskOf codeOf
-  mask-kept p told = by-cond (λ x. Kept n (guestStep w (performMasking (w .guest) (w .memory) x)) h) (not (isPort n (p .0))) (masking.Refused BadPort 0) _
+  mask-kept wide p told = by-cond (λ x. Kept n (guestStep w (performMasking (w .guest) (w .memory) x)) h) (not (isPort n (p .0))) (masking.Refused BadPort 0) _
       (λ e. answered-kept BadPort 0 (λ d. omega arith))
       (λ e. by-cond (λ x. Kept n (guestStep w (performMasking (w .guest) (w .memory) x)) h) (leb (w .guest .words) (p .0)) (masking.Refused OutsideArray 0) _
       (λ d. answered-kept OutsideArray 0 (λ z. omega arith))
-      (λ d. masked-kept p (let a : p .0 < w .guest .words = leb-false (w .guest .words) (p .0) d in let b : w .guest .words ≤ arrayWords w = within w told in omega arith)))
+      (λ d. masked-kept wide p (let a : p .0 < w .guest .words = leb-false (w .guest .words) (p .0) d in let b : w .guest .words ≤ arrayWords w = within w told in omega arith)))
 
   tell-kept : (words : ℕ) → Kept n (guestStep w (guestReplied (tellOf (w .guest) words) Nothing (w .memory))) h
   unfolding tellOf codeOf
@@ -142,8 +142,8 @@ module _ {n : ℕ} (wide : Width n) (w : World) (h : List Event) (k : Good n w h
       })
       (λ e. answered-kept Done 0 (λ d. omega arith))
 
-  pub guest-start-kept : (s : GuestStart) → Allowed w (step.Guest s) → Kept n (guestStep w (guestStartOf n (w .guest) (w .memory) s)) h
+  pub guest-start-kept : Width n → (s : GuestStart) → Allowed w (step.Guest s) → Kept n (guestStep w (guestStartOf n (w .guest) (w .memory) s)) h
   unfolding guestStartOf serviceStart
-  guest-start-kept Service told = service-start (isServing (w .guest .call .stage)) refl
-  guest-start-kept (Mask p) told = mask-kept p told
-  guest-start-kept (Tell words) le = tell-kept words
+  guest-start-kept wide Service told = service-start (isServing (w .guest .call .stage)) refl
+  guest-start-kept wide (Mask p) told = mask-kept wide p told
+  guest-start-kept wide (Tell words) le = tell-kept words

@@ -8,8 +8,13 @@ pub mod View
 pub mod HistoryLaws
 pub mod Good
 pub mod Carried
+pub mod Replies
 pub mod FirstAccess
+pub mod Linking
 pub mod LinkAccess
+pub mod TailAccess
+pub mod HeadAccess
+pub mod Served
 pub mod ServiceAccess
 pub mod Starts
 pub mod GuestStarts

@@ -3,12 +3,12 @@
 use mathlib.Core.Path.{_≡_, refl, sym, ap, _∙_, subst}
 use mathlib.Core.Logic.{_≢_}
 use mathlib.Core.Bool.{Bool, true, false, cond, not, _&&_}
-use mathlib.Core.List.{List, [], _∷_, _++_, append-nil}
+use mathlib.Core.List.{List, append-nil}
 use Prim.Native.Nat.{ℕ, _+_, _*_, _≤_, _<_}
 use native.Mathlib.Omega.{arith}
 use lib.Dec.{eqb, lit≤}
-use lib.ListN.{getD, set, length-set}
-use lib.Seq.{set-out, set-getD, getD-set-same, getD-set-other}
+use lib.ListN.{getD, set}
+use lib.Seq.{set-getD, getD-set-same, getD-set-other}
 use borrow.Author.Tests.{lt-leb, ne-eqb, eqb-true, eqb-false}
 use Rattle.word.specs.declared.Flag.the-variants.{Pending, Masked}
 use Rattle.word.specs.Word.{has, allBut, unlinkOperand, link, Width, queueAt, portAt}
@@ -21,111 +21,37 @@ use Rattle.calls.specs.declared.types.Answer.the-variants.{Done, HandedOver, No
 use Rattle.calls.specs.declared.types.Access.{Access}
 use Rattle.calls.specs.declared.types.Access.the-variants.{Read, And, Swap}
 use Rattle.calls.specs.declared.types.Place.the-variants as place
-use Rattle.calls.specs.declared.types.Next.the-variants as next
 use Rattle.calls.specs.declared.types.Guest.{Guest}
 use Rattle.calls.specs.declared.types.GuestStage.{GuestStage}
 use Rattle.calls.specs.declared.types.GuestStage.the-variants as guestStage
 use Rattle.calls.specs.declared.types.GuestCall as guests
 use Rattle.calls.specs.declared.guest.GuestMove.{GuestMove}
 use Rattle.calls.specs.Answers.{codeOf}
-use Rattle.calls.specs.Guest.{isServing, guestGoesOn, guestEnds, guestNamed, takesIndex, replyG0, replyG2, replyG3, replyG4, guestStaged, serviceQueue, guestDue, guestNext, guestMoved, guestCarriedOut, guestMove, serviceReply}
+use Rattle.calls.specs.Guest.{isServing, guestGoesOn, guestEnds, guestNamed, takesIndex, replyG0, replyG2, replyG3, replyG4, guestStaged, serviceQueue, guestDue}
 use Rattle.machine.specs.Memory.{Memory, memory, performed, placeOf, afterAccess, loaded, saved}
-use Rattle.machine.specs.Exec.{World, Advanced, guestStep, guestReplied, guestAnswer, listOf, performSide, performGuest}
+use Rattle.machine.specs.Exec.{World, performSide}
 use Rattle.machine.specs.declared.types.Side.the-variants as side
 use Rattle.machine.specs.declared.types.Event.{Event}
-use Rattle.machine.specs.declared.types.Event.the-variants.{GuestAccess}
 use Rattle.queue.specs.Update.{update}
-use Rattle.queue.specs.Model.{Word, GuestCall, View, alone, withPending, withLinked, withLink, withWords}
+use Rattle.queue.specs.Model.{Word, GuestCall, View, alone, withPending, withLinked, withLink}
 use Rattle.queue.specs.Model.GuestCall.{noService, atG0, atG1, atG2, atG3, atG4}
-use Rattle.queue.specs.Stages.{After, swapReady, localAtG2, G0, G1, G2, G3, G4}
-use Rattle.queue.specs.Invariant.{Real, Inv, ServiceKeeps}
-use Rattle.queue.proofs.Cases.{clash, by-cond}
+use Rattle.queue.specs.Stages.{swapReady, localAtG2, G0, G1, G2, G3, G4}
+use Rattle.queue.specs.Invariant.{Real, Inv}
+use Rattle.queue.proofs.Cases.{clash}
 use Rattle.queue.proofs.Service.{G0-keeps, G0-real, G1-keeps, G1-real, G3-keeps, G4-keeps}
 use Rattle.queue.proofs.GiveOut.{G2-keeps, G2-real, G2-first}
-use Rattle.queue.proofs.OneVcpu.{alone-update}
 use Rattle.interleaving.specs.Histories.{portIf}
-use Rattle.interleaving.specs.Bounds.{Bounds}
-use Rattle.interleaving.specs.Fresh.{arrayWords}
+use Rattle.interleaving.specs.Fresh.{arrayWords, wordAt}
 use Rattle.interleaving.specs.Rules.{Told}
 use Rattle.interleaving.proofs.ReadyBits.{bitsOf, bits-at, bits-cleared, bits-merged, bits-zero}
 use Rattle.interleaving.proofs.WordLowest.{merged-lowest}
 use Rattle.interleaving.proofs.QueueUpdate.{update-self}
 use Rattle.interleaving.proofs.Decode.{decoded, decoded-not-pending, decoded-unlinked}
-use Rattle.interleaving.proofs.View.{viewBy, viewOf, callOf, guestCallOf, agree, set-update}
-use Rattle.interleaving.proofs.HistoryLaws.{InOrder, order-quiet, order-given, order-guest-answer}
+use Rattle.interleaving.proofs.View.{viewOf, callOf, guestCallOf, agree, set-update}
+use Rattle.interleaving.proofs.HistoryLaws.{order-quiet, order-given}
 use Rattle.interleaving.proofs.Good.{Sizes, Core, Kept}
-use Rattle.interleaving.proofs.Carried.{sizes-word, in-words}
-
--- w, with the service at a stage
-abbrev pub atGuestStage : World → GuestStage → World
-atGuestStage w s = record {
-  domain = w .domain;
-  ledger = w .ledger;
-  guest = record { heads = w .guest .heads; ready = w .guest .ready; words = w .guest .words; call = record { stage = s; port = w .guest .call .port; queue = w .guest .call .queue; count = w .guest .call .count } };
-  memory = w .memory;
-}
-
--- an access that sees `seen` and leaves memory m, and the reply's move
-abbrev served : ℕ → World → Access → ℕ → Memory → GuestMove → Advanced
-served n w a seen m mv = guestStep w (guestReplied (guestCarriedOut n (w .guest) mv) (GuestAccess (w .guest .call) a seen) m)
-
-perform-served : (n : ℕ) (w : World) → isServing (w .guest .call .stage) ≡ true
-    → performSide n w side.Guest ≡ served n w (guestDue n (w .guest .call)) (performed (w .memory) (guestDue n (w .guest .call)) .seen) (performed (w .memory) (guestDue n (w .guest .call)) .memory)
-    (guestMove n (w .guest) (performed (w .memory) (guestDue n (w .guest .call)) .seen))
-unfolding performSide performGuest guestNext serviceReply
-perform-served n w e = simp e
-
--- what a reply makes of the service
-record Moves (to : GuestCall) (mv : GuestMove) : Type 0 where
-  call : guestCallOf (mv .call) ≡ to
-  queue : mv .call .queue .0 < 16
-  answer : codeOf (mv .answer) .number ≢ 18
-
-pub answer-bounds : (n : ℕ) (g : Guest) (a : Answer) (count : ℕ) → codeOf a .number ≢ 18 → Bounds (listOf (guestAnswer (guestNext n g a count)))
-unfolding guestNext
-answer-bounds n g a count b = by-cond (λ x. Bounds (listOf (guestAnswer x))) (not (isServing (g .call .stage))) (next.Answer a count) (next.Access (guestDue n (g .call))) (λ e. (b, tt)) (λ e. tt)
-
-module _ {n : ℕ} (w : World) (h : List Event) {g : GuestCall} (k : Core n w (callOf n (w .domain .call)) g h) (acc : Access) (seen : ℕ) (m : Memory) (mv : GuestMove) where
-  kept : (a : After GuestCall) → ServiceKeeps 0 a (callOf n (w .domain .call)) (alone g)
-      → viewBy n (w .domain .pages) (m .words) (m .block) (w .domain .tails) (w .ledger) (set (w .guest .heads) (mv .queue .0) (mv .head)) (mv .ready) ≡ a .view
-      → Moves (a .call) mv
-      → Sizes n (w .domain .pages) (m .words) (m .block) (w .domain .tails) (w .guest .heads)
-      → InOrder (h ++ GuestAccess (w .guest .call) acc seen ∷ []) (a .lists)
-      → Kept n (served n w acc seen m mv) h
-  unfolding guestMoved
-  kept a inv view moves sizes order = record {
-    good = record {
-      lists = a .lists;
-      inv = subst (λ v. Inv v (callOf n (w .domain .call)) (alone (guestCallOf (mv .call))) (a .lists)) (sym view) (rw (moves .call) (rw (alone-update g (a .call)) at inv));
-      sizes = record { array = sizes .array; lent = sizes .lent; small = sizes .small; block = sizes .block; tails = sizes .tails; heads = simp length-set (sizes .heads) };
-      fit = k .fit;
-      count = k .count;
-      guestQueue = moves .queue;
-      order = order-guest-answer h (GuestAccess (w .guest .call) acc seen ∷ []) (a .lists) order (guestNext n (guestMoved (w .guest) mv) (mv .answer) (mv .count));
-    };
-    bounds = (tt, answer-bounds n _ (mv .answer) (mv .count) (moves .answer));
-  }
-
-module _ {n : ℕ} (w : World) (h : List Event) {g : GuestCall} (k : Core n w (callOf n (w .domain .call)) g h) (m : Memory) (mv : GuestMove) where
-  -- no H changes
-  no-head : mv .queue .0 ≡ 16 → (r : ℕ) → getD (set (w .guest .heads) (mv .queue .0) (mv .head)) r 0 ≡ getD (w .guest .heads) r 0
-  no-head e r = ap (λ l. getD l r 0) (set-out (w .guest .heads) (mv .queue .0) (mv .head) (omega (arith, k .sizes .heads, e)))
-
-  -- the view where the words are f and all else is as before
-  quiet-view : (f : ℕ → Word) → ((x : ℕ) → decoded n (getD (m .words) x 0) ≡ f x) → m .block ≡ w .memory .block → mv .queue .0 ≡ 16 → mv .ready ≡ w .guest .ready
-      → viewBy n (w .domain .pages) (m .words) (m .block) (w .domain .tails) (w .ledger) (set (w .guest .heads) (mv .queue .0) (mv .head)) (mv .ready) ≡ withWords f (viewOf n w)
-  quiet-view f e b q l = agree (record {
-    word = e;
-    size = refl;
-    tail = λ r. refl;
-    lastQueue = λ x. refl;
-    everLinked = λ x. refl;
-    head = λ r. rw b;
-    ready = λ r. rw b;
-    guestHead = no-head q;
-    local = λ r. rw l;
-    owner = λ r. refl;
-  })
+use Rattle.interleaving.proofs.Carried.{sizes-block, sizes-word, in-words}
+use Rattle.interleaving.proofs.Served.{atGuestStage, served, perform-served, Moves, kept, no-head, quiet-view}
 
 -- a guest that has been told reaches the whole array
 reaches : (w : World) → Told w → arrayWords w ≤ w .guest .words
@@ -183,7 +109,7 @@ module _ {n : ℕ} (wide : Width n) (w : World) (h : List Event) where
             local = λ r. ap (λ x. bitsOf x r) l ∙ bits-merged (w .guest .ready) s r;
             owner = λ r. refl;
           }))
-          moves (record { array = k .sizes .array; lent = k .sizes .lent; small = k .sizes .small; block = simp length-set (k .sizes .block); tails = k .sizes .tails; heads = k .sizes .heads })
+          moves (sizes-block (k .sizes) 0 (afterSwap s 0))
           (order-quiet h _ (k .lists) (k .order) (λ r. refl) (λ r. refl))
 
       -- the lowest bit is set
@@ -205,7 +131,16 @@ module _ {n : ℕ} (wide : Width n) (w : World) (h : List Event) where
           (here _ (atG2 q head) (subst (λ b. Inv (swapReady 0 v) (callOf n (w .domain .call)) (update (alone atG0) 0 (cond b (atG1 q) (atG2 q head))) (k .lists)) f (inv e)) refl refl
           (record { call = refl; queue = low e; answer = λ d. omega arith }))
 
-  at-G1 : Told w → Core n (atGuestStage w guestStage.G1) (callOf n (w .domain .call)) (atG1 (w .guest .call .queue .0)) h → Kept n (performSide n (atGuestStage w guestStage.G1) side.Guest) h
+  abbrev p : ℕ
+  p = w .guest .call .port .0
+
+  abbrev q : ℕ
+  q = w .guest .call .queue .0
+
+  abbrev v : View
+  v = viewOf n w
+
+  at-G1 : Told w → Core n (atGuestStage w guestStage.G1) (callOf n (w .domain .call)) (atG1 q) h → Kept n (performSide n (atGuestStage w guestStage.G1) side.Guest) h
   unfolding codeOf isServing guestDue guestStaged performed placeOf afterAccess loaded saved
   at-G1 told k = subst (λ a. Kept n a h) (sym (perform-served n (atGuestStage w guestStage.G1) refl))
       (rw (takes c (w .guest .ready) (w .guest .words) q s (1024 * w .domain .pages) (reaches w told) (G1-real 0 q refl (k .inv)))
@@ -215,9 +150,6 @@ module _ {n : ℕ} (wide : Width n) (w : World) (h : List Event) where
       (subst (λ l. Sizes n (w .domain .pages) (w .memory .words) l (w .domain .tails) (w .guest .heads)) (sym same) (k .sizes))
       (order-quiet h _ (k .lists) (k .order) (λ r. refl) (λ r. refl))))
     where
-      q : ℕ
-      q = w .guest .call .queue .0
-
       s : ℕ
       s = getD (w .memory .block) (q + 2) 0
 
@@ -233,27 +165,19 @@ module _ {n : ℕ} (wide : Width n) (w : World) (h : List Event) where
       same : set (w .memory .block) (q + 2) (afterRead s) ≡ w .memory .block
       same = ap (set (w .memory .block) (q + 2)) (read-keeps s) ∙ set-getD (w .memory .block) (q + 2) 0
 
-  at-G2 : Core n (atGuestStage w guestStage.G2) (callOf n (w .domain .call)) (atG2 (w .guest .call .queue .0) (w .guest .call .port .0)) h → Kept n (performSide n (atGuestStage w guestStage.G2) side.Guest) h
+  -- the word seen at G2 to G4
+  abbrev s : ℕ
+  s = wordAt w p
+
+  at-G2 : Core n (atGuestStage w guestStage.G2) (callOf n (w .domain .call)) (atG2 q p) h → Kept n (performSide n (atGuestStage w guestStage.G2) side.Guest) h
   unfolding codeOf isServing guestDue guestStaged replyG2 performed placeOf afterAccess loaded saved
   at-G2 k = subst (λ a. Kept n a h) (sym (perform-served n w₂ refl)) (go (eqb (link n s) 0) refl)
     where
       w₂ : World
       w₂ = atGuestStage w guestStage.G2
 
-      p : ℕ
-      p = w .guest .call .port .0
-
-      q : ℕ
-      q = w .guest .call .queue .0
-
-      s : ℕ
-      s = getD (w .memory .words) p 0
-
       c : guests.GuestCall
       c = w₂ .guest .call
-
-      v : View
-      v = viewOf n w
 
       m : Memory
       m = memory (set (w .memory .words) p (afterAnd s (unlinkOperand n))) (w .memory .block)
@@ -288,24 +212,15 @@ module _ {n : ℕ} (wide : Width n) (w : World) (h : List Event) where
       go true e = here 0 (cleared (w .guest .ready) q) (eqb-true (link n s) 0 e) (rw e (bits-cleared (w .guest .ready) q (k .guestQueue)))
       go false e = here (link n s) (w .guest .ready) refl (rw e (update-self (bitsOf (w .guest .ready)) q))
 
-  at-G3 : Core n (atGuestStage w guestStage.G3) (callOf n (w .domain .call)) (atG3 (w .guest .call .port .0)) h → Kept n (performSide n (atGuestStage w guestStage.G3) side.Guest) h
+  at-G3 : Core n (atGuestStage w guestStage.G3) (callOf n (w .domain .call)) (atG3 p) h → Kept n (performSide n (atGuestStage w guestStage.G3) side.Guest) h
   unfolding codeOf isServing guestDue guestStaged replyG3 performed placeOf afterAccess loaded saved
   at-G3 k = subst (λ a. Kept n a h) (sym (perform-served n w₃ refl)) (go (has Pending s) (has Masked s) (G3-keeps 0 p refl (k .inv)))
     where
       w₃ : World
       w₃ = atGuestStage w guestStage.G3
 
-      p : ℕ
-      p = w .guest .call .port .0
-
-      s : ℕ
-      s = getD (w .memory .words) p 0
-
       c : guests.GuestCall
       c = w₃ .guest .call
-
-      v : View
-      v = viewOf n w
 
       m : Memory
       m = memory (set (w .memory .words) p (afterRead s)) (w .memory .block)
@@ -328,18 +243,12 @@ module _ {n : ℕ} (wide : Width n) (w : World) (h : List Event) where
       go true true i = here _ noService i refl refl (record { call = refl; queue = lit≤ tt; answer = λ d. omega arith })
       go true false i = here _ (atG4 p) i refl refl (record { call = refl; queue = k .guestQueue; answer = λ d. omega arith })
 
-  at-G4 : Core n (atGuestStage w guestStage.G4) (callOf n (w .domain .call)) (atG4 (w .guest .call .port .0)) h → Kept n (performSide n (atGuestStage w guestStage.G4) side.Guest) h
+  at-G4 : Core n (atGuestStage w guestStage.G4) (callOf n (w .domain .call)) (atG4 p) h → Kept n (performSide n (atGuestStage w guestStage.G4) side.Guest) h
   unfolding codeOf isServing guestDue guestStaged replyG4 performed placeOf afterAccess loaded saved
   at-G4 k = subst (λ a. Kept n a h) (sym (perform-served n w₄ refl)) (go (has Pending s))
     where
       w₄ : World
       w₄ = atGuestStage w guestStage.G4
-
-      p : ℕ
-      p = w .guest .call .port .0
-
-      s : ℕ
-      s = getD (w .memory .words) p 0
 
       m : Memory
       m = memory (set (w .memory .words) p (afterAnd s (allBut Pending))) (w .memory .block)

@@ -55,7 +55,7 @@ use Rattle.interleaving.proofs.View.{viewOf, callBy, callOf, guestCallO
 use Rattle.interleaving.proofs.HistoryLaws.{InOrder, order-quiet, answer-taken, answer-given}
 use Rattle.interleaving.proofs.Good.{Good, Kept}
 use Rattle.interleaving.proofs.Carried.{answer-bounds}
-use Rattle.interleaving.proofs.FirstAccess.{done}
+use Rattle.interleaving.proofs.Replies.{done}
 
 -- no call is under way
 pub free-idle : (n : ℕ) (c : calls.Call) → isFree (c .owner) ≡ true → callOf n c ≡ idle
@@ -175,7 +175,7 @@ module _ (n pages : ℕ) (ledger : List ℕ) (o : Owner) (p : Port) where
       (λ b. by-cond (BeginFacts n pages ledger o starts p) (not (inArray pages (p .0))) _ _ (λ e d. omega arith) (λ i. begun n pages ledger o starts p e f (not-false (inArray pages (p .0)) i)))
 
 -- ---- what the starts keep
-module _ {n : ℕ} (wide : Width n) (w : World) (h : List Event) (k : Good n w h) where
+module _ {n : ℕ} (w : World) (h : List Event) (k : Good n w h) where
   order-start : (x : Next) → InOrder (h ++ listOf (hypervisorAnswer x)) (k .lists)
   order-start x = order-quiet h (listOf (hypervisorAnswer x)) (k .lists) (k .order) (λ q. answer-taken q x) (λ q. answer-given q x)
 
@@ -205,11 +205,11 @@ module _ {n : ℕ} (wide : Width n) (w : World) (h : List Event) (k : Good n w h
       go true false e d = let t = ltb-false x (1024 * (pages + 1)) d in ne-eqb (x / 1024) pages (λ z. omega arith)
       go false b e d = let s = leb-false (1024 * pages) x e in ne-eqb (x / 1024) pages (λ z. omega arith)
 
-  expand-kept : (x : Acceptance) → ExpandFacts n (w .domain .pages) (w .domain .call .owner) x
+  expand-kept : Width n → (x : Acceptance) → ExpandFacts n (w .domain .pages) (w .domain .call .owner) x
       → Kept n (startStep w (started (expandArrayOf (w .domain) x) (w .ledger) (pageAdded (w .domain) (expandArrayOf (w .domain) x) (w .memory .words)))) h
   unfolding oneMore
-  expand-kept (acceptance.Refused a) f = rw (le-ltb (w .domain .pages) (w .domain .pages) (omega arith)) (refused-kept a f)
-  expand-kept acceptance.Accepted f = rw (lt-ltb pages 0xFFFFFFFF (omega (arith, few))) (rw (lt-ltb pages (pages + 1) (omega arith)) (record {
+  expand-kept wide (acceptance.Refused a) f = rw (le-ltb (w .domain .pages) (w .domain .pages) (omega arith)) (refused-kept a f)
+  expand-kept wide acceptance.Accepted f = rw (lt-ltb pages 0xFFFFFFFF (omega (arith, few))) (rw (lt-ltb pages (pages + 1) (omega arith)) (record {
     good = record {
       lists = k .lists;
       inv = subst (λ v. Inv v (callOf n (w .domain .call)) (alone (guestCallOf (w .guest .call))) (k .lists)) (sym view)
@@ -297,12 +297,12 @@ module _ {n : ℕ} (wide : Width n) (w : World) (h : List Event) (k : Good n w h
   abbrev accepted : Port → PortAcceptance
   accepted p = acceptPort n (w .domain .call .owner) (w .domain .given) p (entryAt (w .ledger) (p .0))
 
-  pub start-kept : (s : Start) → Kept n (startStep w (startOf n (w .domain) (w .ledger) (w .memory .words) s)) h
+  pub start-kept : Width n → (s : Start) → Kept n (startStep w (startOf n (w .domain) (w .ledger) (w .memory .words) s)) h
   unfolding startOf initControl expandOf expandArray bindStart closeStart setPriority raiseStart unmaskStart beginBind beginClose beginPriority beginLink
-  start-kept (InitControl vcpu frame frames offset) = init-kept (acceptInit (w .domain .call .owner) (w .domain .given) vcpu frame frames offset) (init-facts (w .domain .call .owner) (w .domain .given) vcpu frame frames offset)
-  start-kept (ExpandArray frame frames) = expand-kept (acceptExpand n (w .domain .call .owner) (w .domain .given) (w .domain .pages) frame frames) (expand-facts n (w .domain .pages) (w .domain .call .owner) (w .domain .given) frame frames)
-  start-kept (Bind p) = started-kept owner.Bind atBind p refl _ (bind-facts n (w .domain .pages) (w .ledger) (w .domain .call .owner) p (accepted p) (port-facts n (w .domain .pages) (w .ledger) (w .domain .call .owner) owner.Bind p (w .domain .given)))
-  start-kept (Close p) = started-kept owner.Close atClose p refl _ (close-facts n (w .domain .pages) (w .ledger) (w .domain .call .owner) p (accepted p) (port-facts n (w .domain .pages) (w .ledger) (w .domain .call .owner) owner.Close p (w .domain .given)))
-  start-kept (SetPriority p r) = started-kept owner.Bind atBind p refl _ (priority-facts n (w .domain .pages) (w .ledger) (w .domain .call .owner) p r owner.Bind (accepted p) (port-facts n (w .domain .pages) (w .ledger) (w .domain .call .owner) owner.Bind p (w .domain .given)))
-  start-kept (Raise p) = started-kept owner.Raise atR1 p refl _ (link-facts n (w .domain .pages) (w .ledger) (w .domain .call .owner) p owner.Raise (accepted p) (port-facts n (w .domain .pages) (w .ledger) (w .domain .call .owner) owner.Raise p (w .domain .given)))
-  start-kept (Unmask p) = started-kept owner.Unmask atU1 p refl _ (link-facts n (w .domain .pages) (w .ledger) (w .domain .call .owner) p owner.Unmask (accepted p) (port-facts n (w .domain .pages) (w .ledger) (w .domain .call .owner) owner.Unmask p (w .domain .given)))
+  start-kept wide (InitControl vcpu frame frames offset) = init-kept (acceptInit (w .domain .call .owner) (w .domain .given) vcpu frame frames offset) (init-facts (w .domain .call .owner) (w .domain .given) vcpu frame frames offset)
+  start-kept wide (ExpandArray frame frames) = expand-kept wide (acceptExpand n (w .domain .call .owner) (w .domain .given) (w .domain .pages) frame frames) (expand-facts n (w .domain .pages) (w .domain .call .owner) (w .domain .given) frame frames)
+  start-kept wide (Bind p) = started-kept owner.Bind atBind p refl _ (bind-facts n (w .domain .pages) (w .ledger) (w .domain .call .owner) p (accepted p) (port-facts n (w .domain .pages) (w .ledger) (w .domain .call .owner) owner.Bind p (w .domain .given)))
+  start-kept wide (Close p) = started-kept owner.Close atClose p refl _ (close-facts n (w .domain .pages) (w .ledger) (w .domain .call .owner) p (accepted p) (port-facts n (w .domain .pages) (w .ledger) (w .domain .call .owner) owner.Close p (w .domain .given)))
+  start-kept wide (SetPriority p r) = started-kept owner.Bind atBind p refl _ (priority-facts n (w .domain .pages) (w .ledger) (w .domain .call .owner) p r owner.Bind (accepted p) (port-facts n (w .domain .pages) (w .ledger) (w .domain .call .owner) owner.Bind p (w .domain .given)))
+  start-kept wide (Raise p) = started-kept owner.Raise atR1 p refl _ (link-facts n (w .domain .pages) (w .ledger) (w .domain .call .owner) p owner.Raise (accepted p) (port-facts n (w .domain .pages) (w .ledger) (w .domain .call .owner) owner.Raise p (w .domain .given)))
+  start-kept wide (Unmask p) = started-kept owner.Unmask atU1 p refl _ (link-facts n (w .domain .pages) (w .ledger) (w .domain .call .owner) p owner.Unmask (accepted p) (port-facts n (w .domain .pages) (w .ledger) (w .domain .call .owner) owner.Unmask p (w .domain .given)))

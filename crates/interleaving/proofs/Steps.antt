@@ -3,11 +3,12 @@
 use mathlib.Core.Path.{_≡_, refl, ap, _∙_}
 use mathlib.Core.Bool.{Bool, true, false}
 use mathlib.Core.List.{List, [], _∷_, _++_, append-nil, append-assoc}
-use Prim.Native.Nat.{ℕ}
+use Prim.Native.Nat.{ℕ, _-_}
 use native.Mathlib.Omega.{arith}
 use Rattle.word.specs.Word.{Width}
 use Rattle.calls.specs.declared.types.Answer.the-variants.{NoCall}
 use Rattle.calls.specs.declared.types.Next.the-variants as next
+use Rattle.calls.specs.declared.types.Owner.{Owner}
 use Rattle.calls.specs.declared.types.Stage.{Stage}
 use Rattle.calls.specs.declared.types.Stage.the-variants as stage
 use Rattle.calls.specs.declared.types.Domain.{Domain}
@@ -26,10 +27,18 @@ use Rattle.queue.proofs.Cases.{clash}
 use Rattle.interleaving.specs.Held.{isLinking}
 use Rattle.interleaving.specs.Bounds.{Bounds}
 use Rattle.interleaving.specs.Rules.{Told, Allowed, KeepsRules}
-use Rattle.interleaving.proofs.Good.{Good, Kept}
-use Rattle.interleaving.proofs.Carried.{atStage}
+use Rattle.interleaving.proofs.Good.{Core, Good, Kept}
+use Rattle.queue.specs.Model.Kind.{atR2}
+use Rattle.queue.specs.Model.Stage.{atR3, atR4, atR5, atR6}
+use Rattle.queue.specs.Model.Call.{asks, holds}
+use Rattle.interleaving.proofs.Decode.{decoded}
+use Rattle.interleaving.proofs.View.{callOf, guestCallOf}
+use Rattle.interleaving.proofs.Carried.{atStage, portOf, queueOf}
 use Rattle.interleaving.proofs.FirstAccess.{first-kept}
-use Rattle.interleaving.proofs.LinkAccess.{isFirst, link-kept}
+use Rattle.interleaving.proofs.Linking.{isFirst, under-way}
+use Rattle.interleaving.proofs.LinkAccess.{at-R2}
+use Rattle.interleaving.proofs.TailAccess.{at-R3, at-R4}
+use Rattle.interleaving.proofs.HeadAccess.{at-R5, at-R6}
 use Rattle.interleaving.proofs.ServiceAccess.{service-kept}
 use Rattle.interleaving.proofs.Starts.{refused-kept, start-kept}
 use Rattle.interleaving.proofs.GuestStarts.{answered-kept, guest-start-kept}
@@ -60,6 +69,16 @@ module _ (n : ℕ) (w : World) where
   unfolding performSide performGuest
   perform-none e = ap (λ x. guestStep w (performGuestNext n (w .guest) (w .memory) x)) (due-none n (w .guest) e) ∙ ap (λ o. guestStep w (guestReplied o Nothing (w .memory))) (reply-none 0 e)
 
+-- a raise or unmask at R2 to R6, whichever of the two it is
+module _ {n : ℕ} (wide : Width n) (w : World) (h : List Event) (o : Owner) (linking : isLinking o ≡ true) where
+  link-kept : (s : Stage) → Core n (atStage w o s) (callOf n (atStage w o s .domain .call)) (guestCallOf (w .guest .call)) h → isFirst s ≡ false → Kept n (performSide n (atStage w o s) side.Hypervisor) h
+  link-kept stage.First k e = clash refl e
+  link-kept stage.R2 k e = at-R2 wide w h o linking (rw (under-way o (asks atR2 (portOf w)) linking) at k)
+  link-kept stage.R3 k e = at-R3 wide w h o linking (rw (under-way o (holds (queueOf w) (portOf w) atR3) linking) at k)
+  link-kept stage.R4 k e = at-R4 wide w h o linking (rw (under-way o (holds (queueOf w) (portOf w) (atR4 (w .domain .call .tries - 1) (decoded n (w .domain .call .word)))) linking) at k)
+  link-kept stage.R5 k e = at-R5 n w h o linking (rw (under-way o (holds (queueOf w) (portOf w) atR5) linking) at k)
+  link-kept stage.R6 k e = at-R6 n w h o linking (rw (under-way o (holds (queueOf w) (portOf w) atR6) linking) at k)
+
 module _ {n : ℕ} (wide : Width n) (w : World) (h : List Event) where
   -- only a raise or unmask makes R2 to R6
   later-kept : (s : Stage) → Good n (atStage w (w .domain .call .owner) s) h → isFirst s ≡ false → Kept n (performSide n (atStage w (w .domain .call .owner) s) side.Hypervisor) h
@@ -80,22 +99,22 @@ module _ {n : ℕ} (wide : Width n) (w : World) (h : List Event) where
   module _ (k : Good n w h) where
     perform-kept : (b : Bool) → isFree (w .domain .call .owner) ≡ b → Kept n (performSide n w side.Hypervisor) h
     unfolding codeOf
-    perform-kept true e = rw (perform-free n w e) (refused-kept wide w h k NoCall (λ d. omega arith))
+    perform-kept true e = rw (perform-free n w e) (refused-kept w h k NoCall (λ d. omega arith))
     perform-kept false e = access-kept (w .domain .call .stage) k e
 
     serve-kept : (b : Bool) → isServing (w .guest .call .stage) ≡ b → Told w → Kept n (performSide n w side.Guest) h
     unfolding codeOf
     serve-kept true e told = service-kept wide w h (w .guest .call .stage) told k e
-    serve-kept false e told = rw (perform-none n w e) (answered-kept wide w h k NoCall 0 (λ d. omega arith))
+    serve-kept false e told = rw (perform-none n w e) (answered-kept w h k NoCall 0 (λ d. omega arith))
 
     pub step-kept : (s : Step) → Allowed w s → Kept n (advanceOf n w s) h
     unfolding advanceOf handBack codeOf
-    step-kept (step.Hypervisor s) a = start-kept wide w h k s
-    step-kept (step.Guest s) a = guest-start-kept wide w h k s a
+    step-kept (step.Hypervisor s) a = start-kept w h k wide s
+    step-kept (step.Guest s) a = guest-start-kept w h k wide s a
     step-kept (step.Perform side.Hypervisor) a = perform-kept (isFree (w .domain .call .owner)) refl
     step-kept (step.Perform side.Guest) a = serve-kept (isServing (w .guest .call .stage)) refl a
-    step-kept (step.HandBack side.Hypervisor word) a = rw (reply-free n w word a) (refused-kept wide w h k NoCall (λ d. omega arith))
-    step-kept (step.HandBack side.Guest word) a = rw (reply-none n w word a) (answered-kept wide w h k NoCall 0 (λ d. omega arith))
+    step-kept (step.HandBack side.Hypervisor word) a = rw (reply-free n w word a) (refused-kept w h k NoCall (λ d. omega arith))
+    step-kept (step.HandBack side.Guest word) a = rw (reply-none n w word a) (answered-kept w h k NoCall 0 (λ d. omega arith))
 
 bounds-append : (a b : List Event) → Bounds a → Bounds b → Bounds (a ++ b)
 bounds-append [] b x y = y

@@ -35,14 +35,15 @@ use Rattle.interleaving.specs.Fresh.{freshWorld}
 use Rattle.interleaving.specs.Standing.{readyWord, Standing, StandsOn}
 use Rattle.interleaving.specs.Held.{isLinking, hasLinked, hasTaken, HeldByHypervisor, HeldByLinker, HeldByGuest}
 use Rattle.interleaving.specs.Claim.{Rest, Claim}
-use Rattle.interleaving.specs.Demand3.{Demand3, BoundsOfEvents}
+use Rattle.interleaving.specs.Demand3.{Demand3}
+use Rattle.interleaving.specs.Bounds.{BoundsOfEvents}
 use Rattle.interleaving.proofs.ReadyBits.{bits-at, bits-none, bits-zero}
 use Rattle.interleaving.proofs.WordEntry.{lastQueue-fresh, lastQueue-zero, everLinked-zero}
 use Rattle.interleaving.proofs.Decode.{decoded}
 use Rattle.interleaving.proofs.View.{viewOf, unlessNone, callBy, callOf, guestCallBy, guestCallOf, agree}
 use Rattle.interleaving.proofs.Good.{Good}
-use Rattle.interleaving.proofs.FirstAccess.{fit-idle}
-use Rattle.interleaving.proofs.LinkAccess.{isFirst}
+use Rattle.interleaving.proofs.Replies.{fit-idle}
+use Rattle.interleaving.proofs.Linking.{isFirst}
 use Rattle.interleaving.proofs.Starts.{free-idle}
 use Rattle.interleaving.proofs.GuestStarts.{none-serving}
 use Rattle.interleaving.proofs.Steps.{steps-kept}

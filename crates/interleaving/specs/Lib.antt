@@ -4,5 +4,5 @@ pub mod Histories
 pub mod Standing
 pub mod Held
 pub mod Claim
-pub mod Bounds
 pub mod Demand3
+pub mod Bounds
