@@ -4,7 +4,7 @@ pub mod LedgerLaws
 pub mod DomainLaws
 pub mod GuestLaws
 pub mod IdleLaws
-pub mod Refusals
+pub mod KeptBytes
 pub mod Narrow
 pub mod Meaning
 pub mod GuestMeaning

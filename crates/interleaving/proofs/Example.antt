@@ -5,6 +5,7 @@ use mathlib.Core.Path.{_≡_, refl, ap, _∙_}
 use mathlib.Core.Bool.{Bool, true, false, not, _&&_}
 use mathlib.Core.List.{List, [], _∷_, _++_}
 use Prim.Native.Nat.{ℕ, _^_, _≤_}
+use native.Mathlib.Omega.{arith}
 use lib.Dec.{leb, lit≤}
 use lib.ListN.{length, getD, replicate, length-replicate}
 use borrow.Author.Tests.{leb-true, not-true}
@@ -22,10 +23,12 @@ use Rattle.machine.specs.declared.types.Start.the-variants.{InitControl, Expand
 use Rattle.machine.specs.declared.types.GuestStart.the-variants.{Service, Mask, Tell}
 use Rattle.machine.specs.declared.types.Step.{Step}
 use Rattle.machine.specs.declared.types.Step.the-variants as step
+use Rattle.queue.specs.Chain.Chain.{ends, goes}
 use Rattle.queue.proofs.Cases.{and-both}
 use Rattle.interleaving.specs.Fresh.{freshWorld, arrayWords}
 use Rattle.interleaving.specs.Rules.{tellDue, AllowedByDocument, KeepsDocumentRules}
 use Rattle.interleaving.specs.Histories.{takenIn, givenOut}
+use Rattle.interleaving.specs.Standing.{Standing}
 use Rattle.interleaving.specs.Claim.{Rest, Claim}
 use Rattle.interleaving.proofs.DocumentRules.{demand3-by-document}
 
@@ -74,13 +77,19 @@ serviceOf5 = step.Guest Service ∷ step.Perform side.Guest ∷ step.Perform sid
 abbrev serviceOf4 : List Step
 serviceOf4 = step.Guest Service ∷ step.Perform side.Guest ∷ step.Perform side.Guest ∷ step.Perform side.Guest ∷ step.Perform side.Guest ∷ []
 
-abbrev example : List Step
-example =
+-- both ports are raised
+abbrev raised : List Step
+raised =
     step.Hypervisor (InitControl 0 1 4 0) ∷ step.Hypervisor (ExpandArray 2 4) ∷ step.Guest (Tell 1024)
     ∷ step.Hypervisor (Bind (portAt 5)) ∷ access ∷ step.Hypervisor (Bind (portAt 9)) ∷ access
     ∷ step.Hypervisor (Raise (portAt 5)) ∷ access ∷ access ∷ access ∷ access
-    ∷ step.Hypervisor (Raise (portAt 9)) ∷ access ∷ access ∷ access ∷ access
-    ∷ (serviceOf5
+    ∷ step.Hypervisor (Raise (portAt 9)) ∷ access ∷ access ∷ access ∷ access ∷ []
+
+-- 5 is served, masked and raised, which leaves it pending; the unmask links it behind 9; then services until idle
+abbrev example : List Step
+example =
+    raised
+    ++ (serviceOf5
     ++ (step.Guest (Mask (portAt 5)) ∷ step.Hypervisor (Raise (portAt 5)) ∷ access
     ∷ step.Hypervisor (Unmask (portAt 5)) ∷ access ∷ access ∷ access ∷ access
     ∷ (serviceOf4 ++ (serviceOf4 ++ (step.Guest Service ∷ step.Perform side.Guest ∷ [])))))
@@ -139,3 +148,8 @@ example-rest = record {
   local = λ q lt. ap (λ z. isReady q (z .local)) ran ∙ ready-zero q;
   ready = λ q lt. ap (λ z. isReady q (z .ready)) ran ∙ ready-zero q;
 }
+
+-- once both are raised, 5 and then 9 stand on queue 7
+pub example-standing : Standing linkBits (execAll linkBits start raised .world) 7 (5 ∷ 9 ∷ [])
+unfolding runs
+example-standing = goes refl (λ (e : _≡_ {A = ℕ} 5 0). omega arith) (goes refl (λ (e : _≡_ {A = ℕ} 9 0). omega arith) (ends refl))

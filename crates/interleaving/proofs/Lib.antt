@@ -20,5 +20,6 @@ pub mod Starts
 pub mod GuestStarts
 pub mod Steps
 pub mod Theorem
+pub mod Counts
 pub mod DocumentRules
 pub mod Example

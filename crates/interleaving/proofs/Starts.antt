@@ -75,7 +75,7 @@ free-idle n c e = go (c .owner) (c .stage) e
     go owner.Unmask s e = clash e refl
 
 -- ---- the refusals give no answer 2, and an accepted call has what its row asks for
-abbrev Fine : Answer → Type 0
+abbrev pub Fine : Answer → Type 0
 Fine a = codeOf a .number ≢ 2
 
 abbrev InitFacts : Acceptance → Type 0
@@ -102,35 +102,35 @@ module _ (n pages : ℕ) (o : Owner) where
       (λ e. by-cond ExpandFacts (leb (pageLimit n) pages) _ _ (λ e d. omega arith) (λ few. by-cond ExpandFacts (leb frames frame) _ _ (λ e d. omega arith)
       (λ e. record { free = not-false (isFree o) free; few = leb-false (pageLimit n) pages few }))))
 
-record WithEntry (ledger : List ℕ) (o : Owner) (p e : ℕ) : Type 0 where
-  free : isFree o ≡ true
-  some : p ≢ 0
-  entry : p < length ledger
-  same : e ≡ getD ledger p 0
+pub record WithEntry (ledger : List ℕ) (o : Owner) (p e : ℕ) : Type 0 where
+  pub free : isFree o ≡ true
+  pub some : p ≢ 0
+  pub entry : p < length ledger
+  pub same : e ≡ getD ledger p 0
 
 -- a call begun on p by owner `starts`
-record Begun (pages : ℕ) (ledger : List ℕ) (o starts : Owner) (p : Port) (c : calls.Call) : Type 0 where
-  free : isFree o ≡ true
-  real : Real (1024 * pages) (p .0)
-  entry : p .0 < length ledger
-  call : c ≡ callAt starts stage.First p (queueAt 0) 1
+pub record Begun (pages : ℕ) (ledger : List ℕ) (o starts : Owner) (p : Port) (c : calls.Call) : Type 0 where
+  pub free : isFree o ≡ true
+  pub real : Real (1024 * pages) (p .0)
+  pub entry : p .0 < length ledger
+  pub call : c ≡ callAt starts stage.First p (queueAt 0) 1
 
 -- an entry changed at once
-record Settled (ledger : List ℕ) (p e : ℕ) : Type 0 where
-  last : lastQueue e ≡ lastQueue (getD ledger p 0)
-  ever : everLinked e ≡ everLinked (getD ledger p 0)
+pub record Settled (ledger : List ℕ) (p e : ℕ) : Type 0 where
+  pub last : lastQueue e ≡ lastQueue (getD ledger p 0)
+  pub ever : everLinked e ≡ everLinked (getD ledger p 0)
 
 module _ (n pages : ℕ) (ledger : List ℕ) (o starts : Owner) (p : Port) where
-  abbrev PortFacts : PortAcceptance → Type 0
+  abbrev pub PortFacts : PortAcceptance → Type 0
   PortFacts (portAcceptance.Refused a) = Fine a
   PortFacts (portAcceptance.Entry e) = WithEntry ledger o (p .0) e
 
-  abbrev BeginFacts : Begin → Type 0
+  abbrev pub BeginFacts : Begin → Type 0
   BeginFacts (begin.Refused a) = Fine a
   BeginFacts (begin.Begun c) = Begun pages ledger o starts p c
   BeginFacts (begin.Settled e) = Settled ledger (p .0) e
 
-  port-facts : (given : Bool) → PortFacts (acceptPort n o given p (entryAt ledger (p .0)))
+  pub port-facts : (given : Bool) → PortFacts (acceptPort n o given p (entryAt ledger (p .0)))
   unfolding acceptPort entryAt isPort codeOf
   port-facts given = by-cond PortFacts (not (isFree o)) _ _ (λ e d. omega arith) (λ free. by-cond PortFacts (not given) _ _ (λ e d. omega arith)
       (λ e. by-cond PortFacts (not (not (eqb (p .0) 0) && ltb (p .0) (2 ^ n))) _ _ (λ e d. omega arith)
@@ -148,27 +148,27 @@ module _ (n pages : ℕ) (ledger : List ℕ) (o starts : Owner) (p : Port) where
   begun e f i = record { free = f .free; real = record { some = f .some; inside = let a : p .0 / 1024 < pages = ltb-true (p .0 / 1024) pages i in omega arith }; entry = f .entry; call = refl }
 
 module _ (n pages : ℕ) (ledger : List ℕ) (o : Owner) (p : Port) where
-  bind-facts : (x : PortAcceptance) → PortFacts n pages ledger o owner.Bind p x → BeginFacts n pages ledger o owner.Bind p (bindEntry pages p x)
+  pub bind-facts : (x : PortAcceptance) → PortFacts n pages ledger o owner.Bind p x → BeginFacts n pages ledger o owner.Bind p (bindEntry pages p x)
   unfolding codeOf
   bind-facts (portAcceptance.Refused a) f = f
   bind-facts (portAcceptance.Entry e) f = by-cond (BeginFacts n pages ledger o owner.Bind p) (bound e) _ _ (λ e d. omega arith)
       (λ b. by-cond (BeginFacts n pages ledger o owner.Bind p) (inArray pages (p .0)) _ _ (begun n pages ledger o owner.Bind p e f)
       (λ i. record { last = lastQueue-boundEntry e ∙ ap lastQueue (f .same); ever = everLinked-boundEntry e ∙ ap everLinked (f .same) }))
 
-  close-facts : (x : PortAcceptance) → PortFacts n pages ledger o owner.Close p x → BeginFacts n pages ledger o owner.Close p (closeEntry pages p x)
+  pub close-facts : (x : PortAcceptance) → PortFacts n pages ledger o owner.Close p x → BeginFacts n pages ledger o owner.Close p (closeEntry pages p x)
   unfolding codeOf
   close-facts (portAcceptance.Refused a) f = f
   close-facts (portAcceptance.Entry e) f = by-cond (BeginFacts n pages ledger o owner.Close p) (not (bound e)) _ _ (λ e d. omega arith)
       (λ b. by-cond (BeginFacts n pages ledger o owner.Close p) (inArray pages (p .0)) _ _ (begun n pages ledger o owner.Close p e f)
       (λ i. record { last = lastQueue-closedEntry e ∙ ap lastQueue (f .same); ever = everLinked-closedEntry e ∙ ap everLinked (f .same) }))
 
-  priority-facts : (r : Priority) (starts : Owner) (x : PortAcceptance) → PortFacts n pages ledger o starts p x → BeginFacts n pages ledger o starts p (priorityEntry r x)
+  pub priority-facts : (r : Priority) (starts : Owner) (x : PortAcceptance) → PortFacts n pages ledger o starts p x → BeginFacts n pages ledger o starts p (priorityEntry r x)
   unfolding codeOf
   priority-facts r starts (portAcceptance.Refused a) f = f
   priority-facts r starts (portAcceptance.Entry e) f = by-cond (BeginFacts n pages ledger o starts p) (ltb 15 (r .0)) _ _ (λ e d. omega arith)
       (λ b. record { last = lastQueue-withPriority e (r .0) ∙ ap lastQueue (f .same); ever = everLinked-withPriority e (r .0) ∙ ap everLinked (f .same) })
 
-  link-facts : (starts : Owner) (x : PortAcceptance) → PortFacts n pages ledger o starts p x → BeginFacts n pages ledger o starts p (linkEntry starts pages p x)
+  pub link-facts : (starts : Owner) (x : PortAcceptance) → PortFacts n pages ledger o starts p x → BeginFacts n pages ledger o starts p (linkEntry starts pages p x)
   unfolding codeOf
   link-facts starts (portAcceptance.Refused a) f = f
   link-facts starts (portAcceptance.Entry e) f = by-cond (BeginFacts n pages ledger o starts p) (not (bound e)) _ _ (λ e d. omega arith)

@@ -53,19 +53,19 @@ unfolding guestNext
 due-none n g e = rw e
 
 module _ (n : ℕ) (w : World) where
-  reply-free : (word : ℕ) → isFree (w .domain .call .owner) ≡ true → replyOf n (w .domain) (w .ledger) word ≡ turn (answered (w .domain) NoCall) (w .ledger)
+  pub reply-free : (word : ℕ) → isFree (w .domain .call .owner) ≡ true → replyOf n (w .domain) (w .ledger) word ≡ turn (answered (w .domain) NoCall) (w .ledger)
   unfolding replyOf
   reply-free word e = rw e
 
-  perform-free : isFree (w .domain .call .owner) ≡ true → performSide n w side.Hypervisor ≡ startStep w (started (answered (w .domain) NoCall) (w .ledger) (w .memory .words))
+  pub perform-free : isFree (w .domain .call .owner) ≡ true → performSide n w side.Hypervisor ≡ startStep w (started (answered (w .domain) NoCall) (w .ledger) (w .memory .words))
   unfolding performSide performHypervisor
   perform-free e = ap (λ x. hypervisorStep w (performHypervisorNext n (w .domain) (w .ledger) (w .memory) x)) (due-free n (w .domain) e) ∙ ap (λ t. hypervisorStep w (hypervisorReplied t Nothing (w .memory))) (reply-free 0 e)
 
-  reply-none : (word : ℕ) → isServing (w .guest .call .stage) ≡ false → serviceReply n (w .guest) word ≡ guestAnswered (w .guest) NoCall
+  pub reply-none : (word : ℕ) → isServing (w .guest .call .stage) ≡ false → serviceReply n (w .guest) word ≡ guestAnswered (w .guest) NoCall
   unfolding serviceReply
   reply-none word e = rw e
 
-  perform-none : isServing (w .guest .call .stage) ≡ false → performSide n w side.Guest ≡ guestStep w (guestReplied (guestAnswered (w .guest) NoCall) Nothing (w .memory))
+  pub perform-none : isServing (w .guest .call .stage) ≡ false → performSide n w side.Guest ≡ guestStep w (guestReplied (guestAnswered (w .guest) NoCall) Nothing (w .memory))
   unfolding performSide performGuest
   perform-none e = ap (λ x. guestStep w (performGuestNext n (w .guest) (w .memory) x)) (due-none n (w .guest) e) ∙ ap (λ o. guestStep w (guestReplied o Nothing (w .memory))) (reply-none 0 e)
 

@@ -155,7 +155,7 @@ filled f a x e d zero i = d
 filled f a x e d (suc entries) zero = e
 filled f a x e d (suc entries) (suc i) = filled f a x e d entries i
 
-fresh-good : (n : ℕ) (lent : List ℕ) (entries : ℕ) → 2 ^ n ≤ length lent → Good n (freshWorld lent entries) []
+pub fresh-good : (n : ℕ) (lent : List ℕ) (entries : ℕ) → 2 ^ n ≤ length lent → Good n (freshWorld lent entries) []
 fresh-good n lent entries le = record {
   lists = λ q. [];
   inv = subst (λ v. Inv v idle (alone noService) (λ q. [])) (sym (agree (record {

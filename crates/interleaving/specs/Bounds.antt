@@ -1,5 +1,5 @@
--- What else holds of every event on demand 3's terms: answers 2 and 18 never come up; a call makes at most 5 accesses
--- and `mostTries`, that is eight; R6 always finds its bit clear, so that it answers 1.
+-- What else holds of every event on demand 3's terms: answers 2 and 18 never come up; a count is at most 5 and
+-- `mostTries`, that is eight; R4 is tried at most `mostTries` times; R6 always finds its bit clear, so that it answers 1.
 -- Assumes nothing.
 use Prim.Native.Nat.{ℕ, _+_, _^_, _≤_}
 use mathlib.Core.Path.{_≡_}
@@ -20,12 +20,12 @@ use Rattle.queue.specs.Budget.{mostTries}
 use Rattle.interleaving.specs.Fresh.{freshWorld}
 use Rattle.interleaving.specs.Rules.{KeepsRules}
 
--- an answer of the hypervisor's: not 2, and a count of at most 5 and the tries
+-- an answer of the hypervisor's
 pub record AnswerBounds (a : Answer) (count : ℕ) : Type 0 where
   pub linkNotAbandoned : codeOf a .number ≢ 2
   pub accesses : count ≤ 5 + mostTries
 
--- an access of the hypervisor's, with its number in its call: R4 is tried at most so often, and R6 finds its bit clear
+-- an access of the hypervisor's call c
 pub record AccessBounds (c : Call) (seen : ℕ) : Type 0 where
   pub accesses : c .count ≤ 5 + mostTries
   pub fewTries : c .stage ≡ stage.R4 → c .tries ≤ mostTries

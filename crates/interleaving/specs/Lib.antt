@@ -6,3 +6,4 @@ pub mod Held
 pub mod Claim
 pub mod Demand3
 pub mod Bounds
+pub mod Counts

@@ -1,0 +1,28 @@
+-- What the counts in answers mean, on demand 3's terms: the count of an answer that ends a hypervisor's call is the number
+-- of accesses that the call made, and no call makes more than 5 accesses and `mostTries`, that is eight.
+-- Assumes nothing.
+use Prim.Native.Nat.{ℕ, zero, suc, _+_, _^_, _≤_}
+use mathlib.Core.Path.{_≡_}
+use mathlib.Core.List.{List, [], _∷_}
+use lib.ListN.{length}
+use Rattle.machine.specs.Exec.{execAll}
+use Rattle.machine.specs.declared.types.Step.{Step}
+use Rattle.machine.specs.declared.types.Event.{Event}
+use Rattle.machine.specs.declared.types.Event.the-variants.{Nothing, HypervisorAccess, GuestAccess, MaskAccess, HypervisorAnswer, GuestAnswer}
+use Rattle.queue.specs.Budget.{mostTries}
+use Rattle.interleaving.specs.Fresh.{freshWorld}
+use Rattle.interleaving.specs.Rules.{KeepsRules}
+
+-- the hypervisor's call under way has made so many accesses; an answer that ends no call counts 0
+abbrev pub Counted : ℕ → List Event → Type 0
+Counted made [] = Unit {0}
+Counted made (Nothing ∷ es) = Counted made es
+Counted made (HypervisorAccess c a seen ∷ es) = (suc made ≤ 5 + mostTries) × Counted (suc made) es
+Counted made (GuestAccess c a seen ∷ es) = Counted made es
+Counted made (MaskAccess a seen ∷ es) = Counted made es
+Counted made (HypervisorAnswer a zero ∷ es) = Counted made es
+Counted made (HypervisorAnswer a (suc count) ∷ es) = (suc count ≡ made) × Counted 0 es
+Counted made (GuestAnswer a count ∷ es) = Counted made es
+
+unfoldable pub CountsOfEvents : ℕ → Type 0
+CountsOfEvents n = (lent : List ℕ) (entries : ℕ) (steps : List Step) → 2 ^ n ≤ length lent → KeepsRules n (freshWorld lent entries) steps → Counted 0 (execAll n (freshWorld lent entries) steps .events)

@@ -1,0 +1,188 @@
+//! The branches of every stage, told from the record before the reply and the word seen.
+
+use super::pair::Before;
+use crate::model::decisions::queue_value;
+use crate::model::{Call, Domain, Entry, EventWord, Guest, Port, Queue, ServiceStage, Stage};
+
+macro_rules! points {
+    ($($name:ident = $text:literal),* $(,)?) => {
+        /// A branch of a stage.
+        #[derive(Clone, Copy, Debug, PartialEq, Eq)]
+        #[allow(missing_docs)]
+        pub enum Point { $($name),* }
+
+        /// Every branch with its name.
+        pub const POINTS: &[(Point, &str)] = &[$((Point::$name, $text)),*];
+    };
+}
+
+points! {
+    BindLinked = "bind: seen LINKED",
+    BindFree = "bind: seen not LINKED",
+    CloseMade = "close: and made",
+    R1Masked = "R1: seen MASKED",
+    R1Linked = "R1: seen LINKED, not MASKED",
+    R1Pending = "R1: goes on, PENDING was set",
+    R1Clear = "R1: goes on, PENDING was clear",
+    U1NotPending = "U1: seen not PENDING",
+    U1Linked = "U1: seen PENDING and LINKED",
+    U1Goes = "U1: goes on",
+    R2Linked = "R2: seen LINKED",
+    R2StaleTail = "R2: tail of the last queue becomes 0",
+    R2NeverLinked = "R2: bit 9 clear, that queue's tail is p",
+    R2SameQueue = "R2: last queue is q, its tail is p",
+    R2OtherTail = "R2: last queue is another, its tail is not p",
+    R2StaleOutside = "R2: tail of the last queue is p, outside the array",
+    R2NoTail = "R2: T[q] is 0, to R5",
+    R2TailOutside = "R2: T[q] outside the array, to R5",
+    R2TailIsPort = "R2: T[q] is p, to R5",
+    R2Tail = "R2: to R3",
+    R3Linked = "R3: seen LINKED, to R4",
+    R3NotLinked = "R3: seen not LINKED, to R5",
+    R4Taken1 = "R4: taken on try 1",
+    R4Taken2 = "R4: taken on try 2",
+    R4Taken3 = "R4: taken on try 3",
+    R4Taken4 = "R4: taken on try 4",
+    R4Lost1 = "R4: try 1 loses LINKED, to R5",
+    R4Lost2 = "R4: try 2 loses LINKED, to R5",
+    R4Lost3 = "R4: try 3 loses LINKED, to R5",
+    R4Lost4 = "R4: try 4 loses LINKED, to R5",
+    R4Again1 = "R4: try 1 not taken, keeps LINKED",
+    R4Again2 = "R4: try 2 not taken, keeps LINKED",
+    R4Again3 = "R4: try 3 not taken, keeps LINKED",
+    R4Abandoned = "R4: try 4 not taken, keeps LINKED: 2",
+    R4Other = "R4: tries of 0 or above 4 (arbitrary records)",
+    R5Made = "R5: HEAD stored",
+    R6BitClear = "R6: bit was clear: 1",
+    R6BitSet = "R6: bit was set: 0",
+    G0Idle = "G0: no bit: 20",
+    G0Head = "G0: H[q] not 0, to G2",
+    G0BadHead = "G0: H[q] outside: 18",
+    G0NoHead = "G0: H[q] is 0, to G1",
+    G1Index = "G1: HEAD[q] inside, to G2",
+    G1Zero = "G1: HEAD[q] is 0: 18",
+    G1Outside = "G1: HEAD[q] outside: 18",
+    G2End = "G2: LINK 0, the local bit clears",
+    G2Link = "G2: LINK not 0",
+    G3NotPending = "G3: not PENDING: 21",
+    G3Masked = "G3: PENDING and MASKED: 21",
+    G3Goes = "G3: to G4",
+    G4Pending = "G4: seen PENDING: 19",
+    G4NotPending = "G4: seen not PENDING: 21",
+}
+
+/// The branches of an accepted reply to the hypervisor's call: R2 has two.
+pub fn of_reply(before: &Before, call: &Call, entry: Entry, seen: u32) -> [Option<Point>; 2] {
+    let word = EventWord::from_bits(seen);
+    let one = match call.stage {
+        Stage::BindRead if word.linked => Point::BindLinked,
+        Stage::BindRead => Point::BindFree,
+        Stage::CloseAnd => Point::CloseMade,
+        Stage::R1 => of_r1(word),
+        Stage::U1 => of_u1(word),
+        Stage::R2 if word.linked => Point::R2Linked,
+        Stage::R2 => return of_r2(&before.domain, call.port, entry),
+        Stage::R3 { .. } if word.linked => Point::R3Linked,
+        Stage::R3 { .. } => Point::R3NotLinked,
+        Stage::R4 { old, tries, .. } => of_r4(old == seen, word.linked, tries),
+        Stage::R5 { .. } => Point::R5Made,
+        Stage::R6 { queue } if seen >> (queue.0 % 16) & 1 == 0 => Point::R6BitClear,
+        Stage::R6 { .. } => Point::R6BitSet,
+    };
+    [Some(one), None]
+}
+
+fn of_r1(word: EventWord) -> Point {
+    match (word.masked, word.linked, word.pending) {
+        (true, _, _) => Point::R1Masked,
+        (_, true, _) => Point::R1Linked,
+        (_, _, true) => Point::R1Pending,
+        _ => Point::R1Clear,
+    }
+}
+
+fn of_u1(word: EventWord) -> Point {
+    match (word.pending, word.linked) {
+        (false, _) => Point::U1NotPending,
+        (_, true) => Point::U1Linked,
+        _ => Point::U1Goes,
+    }
+}
+
+fn of_r2(domain: &Domain, port: Port, entry: Entry) -> [Option<Point>; 2] {
+    let queue = entry.priority.queue();
+    [
+        of_last_queue(domain, port, entry, queue),
+        Some(of_tail(domain, port, queue)),
+    ]
+}
+
+fn of_last_queue(domain: &Domain, port: Port, entry: Entry, queue: Queue) -> Option<Point> {
+    let tail_is_port = queue_value(&domain.tails, entry.last) == port.0 && port.0 != 0;
+    let same = entry.last == queue;
+    match (entry.been_linked, same, tail_is_port) {
+        (false, false, true) => Some(Point::R2NeverLinked),
+        (true, true, true) => Some(Point::R2SameQueue),
+        (true, false, false) => Some(Point::R2OtherTail),
+        (true, false, true) if domain.in_array(port) => Some(Point::R2StaleTail),
+        (true, false, true) => Some(Point::R2StaleOutside),
+        _ => None,
+    }
+}
+
+fn of_tail(domain: &Domain, port: Port, queue: Queue) -> Point {
+    match queue_value(&domain.tails, queue) {
+        0 => Point::R2NoTail,
+        tail if !domain.in_array(Port(tail)) => Point::R2TailOutside,
+        tail if tail == port.0 => Point::R2TailIsPort,
+        _ => Point::R2Tail,
+    }
+}
+
+fn of_r4(taken: bool, linked: bool, tries: u32) -> Point {
+    match (tries, taken, linked) {
+        (1, true, _) => Point::R4Taken1,
+        (2, true, _) => Point::R4Taken2,
+        (3, true, _) => Point::R4Taken3,
+        (4, true, _) => Point::R4Taken4,
+        (1, _, false) => Point::R4Lost1,
+        (2, _, false) => Point::R4Lost2,
+        (3, _, false) => Point::R4Lost3,
+        (4, _, false) => Point::R4Lost4,
+        (1, _, true) => Point::R4Again1,
+        (2, _, true) => Point::R4Again2,
+        (3, _, true) => Point::R4Again3,
+        (4, _, true) => Point::R4Abandoned,
+        _ => Point::R4Other,
+    }
+}
+
+/// The branch of a reply to the service.
+pub fn of_service_reply(guest: &Guest, stage: ServiceStage, seen: u32) -> Point {
+    let word = EventWord::from_bits(seen);
+    match stage {
+        ServiceStage::G0 => of_g0(guest, seen),
+        ServiceStage::G1 { .. } if seen == 0 => Point::G1Zero,
+        ServiceStage::G1 { .. } if seen >= guest.words => Point::G1Outside,
+        ServiceStage::G1 { .. } => Point::G1Index,
+        ServiceStage::G2 { .. } if word.link.0 == 0 => Point::G2End,
+        ServiceStage::G2 { .. } => Point::G2Link,
+        ServiceStage::G3 { .. } if !word.pending => Point::G3NotPending,
+        ServiceStage::G3 { .. } if word.masked => Point::G3Masked,
+        ServiceStage::G3 { .. } => Point::G3Goes,
+        ServiceStage::G4 { .. } if word.pending => Point::G4Pending,
+        ServiceStage::G4 { .. } => Point::G4NotPending,
+    }
+}
+
+fn of_g0(guest: &Guest, seen: u32) -> Point {
+    let bits = (guest.local | seen) as u16;
+    if bits == 0 {
+        return Point::G0Idle;
+    }
+    match guest.heads[bits.trailing_zeros() as usize] {
+        0 => Point::G0NoHead,
+        head if head >= guest.words => Point::G0BadHead,
+        _ => Point::G0Head,
+    }
+}

@@ -1,0 +1,127 @@
+//! What the library gives and holds after a step, compared with the model's.
+
+use super::pair::Pair;
+use crate::boundary::records::{self, DOMAIN_SIZE, GUEST_SIZE};
+use crate::boundary::{calls, ledger, Encoded};
+use crate::model::machine::Stepped;
+use crate::model::{Answer, Event, Next};
+
+/// What `due` gives where no call is under way.
+const NO_CALL: Next = Next::Answer(Answer::NoCall, 0);
+
+/// Refusals that leave every byte as it was: all but 7 and 18.
+fn changes_nothing(answer: Answer) -> bool {
+    matches!(answer.number(), 3..=6 | 8..=17)
+}
+
+impl Pair {
+    /// What the library gave and holds after a step, beside the model's.
+    pub(super) fn compare(
+        &mut self,
+        masked: bool,
+        stepped: &Stepped,
+        encoded: Encoded,
+        port: Option<usize>,
+    ) -> Result<(), String> {
+        let wanted = match (masked, stepped.events.first()) {
+            (true, Some(Event::Accessed(accessed))) => Next::Access(accessed.access),
+            _ => stepped.next,
+        };
+        expect("what it gives", encoded.next(), Some(wanted))?;
+        let changed = self.follow_entry(port);
+        self.compare_records()?;
+        self.compare_ledger()?;
+        match stepped.next {
+            Next::Answer(answer, count) if changes_nothing(answer) => {
+                expect("count of a refusal", count, 0)?;
+                expect("entry changed by a refusal", changed, false)?;
+                self.compare_unchanged()
+            }
+            _ => self.compare_rest(),
+        }
+    }
+
+    /// Brings the port's entry of the model into the ledger to compare with; whether it changed.
+    fn follow_entry(&mut self, port: Option<usize>) -> bool {
+        let Some(port) = port else { return false };
+        let Some(entry) = self.world.ledger.get(port) else {
+            return false;
+        };
+        let at = 2 * port;
+        let former = [self.ledger[at], self.ledger[at + 1]];
+        ledger::put_entry(&mut self.ledger, port, *entry);
+        former != [self.ledger[at], self.ledger[at + 1]]
+    }
+
+    /// Both records through the decoder, and the accesses that are due.
+    pub(super) fn compare_records(&self) -> Result<(), String> {
+        let domain = self.lent.domain.bytes();
+        if domain.len() >= DOMAIN_SIZE {
+            expect("record", records::domain(domain), self.world.domain)?;
+            let due = self.world.model.due(&self.world.domain);
+            let due = due.map_or(NO_CALL, Next::Access);
+            expect("access due", calls::due(domain).next(), Some(due))?;
+        }
+        let guest = self.lent.guest.bytes();
+        if guest.len() >= GUEST_SIZE {
+            expect("guest record", records::guest(guest), self.world.guest)?;
+            let due = self.world.model.service_due(&self.world.guest);
+            let due = due.map_or(NO_CALL, Next::Access);
+            let given = calls::service_due(guest).next();
+            expect("service's access due", given, Some(due))?;
+        }
+        Ok(())
+    }
+
+    /// Every byte of the ledger.
+    pub(super) fn compare_ledger(&self) -> Result<(), String> {
+        let (lent, wanted) = (self.lent.ledger.bytes(), &self.ledger[..]);
+        if lent == wanted {
+            return Ok(());
+        }
+        let at = lent.iter().zip(wanted).position(|(a, b)| a != b);
+        Err(format!("ledger byte {at:?} differs"))
+    }
+
+    /// Every byte of both records is as before.
+    pub(super) fn compare_unchanged(&self) -> Result<(), String> {
+        let domain = self.lent.domain.bytes();
+        expect("record's bytes", domain, &self.kept.domain[..])?;
+        let guest = self.lent.guest.bytes();
+        expect("guest record's bytes", guest, &self.kept.guest[..])
+    }
+
+    /// The bytes behind both records are as before.
+    fn compare_rest(&self) -> Result<(), String> {
+        let rest = |bytes: &[u8], size| bytes.get(size..).unwrap_or(&[]).to_vec();
+        let domain = self.lent.domain.bytes();
+        if domain.len() > DOMAIN_SIZE {
+            let former = rest(&self.kept.domain, DOMAIN_SIZE);
+            expect("bytes behind the record", rest(domain, DOMAIN_SIZE), former)?;
+        }
+        let guest = self.lent.guest.bytes();
+        if guest.len() > GUEST_SIZE {
+            let former = rest(&self.kept.guest, GUEST_SIZE);
+            expect(
+                "bytes behind the guest record",
+                rest(guest, GUEST_SIZE),
+                former,
+            )?;
+        }
+        Ok(())
+    }
+}
+
+/// An error text where the library's value is not the model's.
+pub(super) fn expect<T: PartialEq + std::fmt::Debug>(
+    what: &str,
+    library: T,
+    model: T,
+) -> Result<(), String> {
+    if library == model {
+        return Ok(());
+    }
+    Err(format!(
+        "{what} differs\n library {library:?}\n model   {model:?}"
+    ))
+}

@@ -1,0 +1,148 @@
+//! Counts of what a run met, and which of them must be met.
+
+use super::branches::{of_reply, of_service_reply, Point, POINTS};
+use super::pair::Before;
+use super::rows::{given, row, Row, GIVEN, NAMES_ACCESS, ROWS};
+use crate::model::machine::Stepped;
+use crate::model::{Next, Owner, Side, Step};
+
+/// How often each must be met.
+pub const WANTED: u64 = 1_000;
+
+/// Places where a stored count is at its top value.
+const SATURATED: [&str; 4] = [
+    "saturated count: in an answer of the hypervisor's",
+    "saturated count: stays when its call names an access",
+    "saturated count: in an answer of a service's",
+    "saturated count: stays when a service names an access",
+];
+
+/// What a run met.
+#[derive(Clone, Debug)]
+pub struct Coverage {
+    /// Steps made.
+    pub steps: u64,
+    given: [[u64; GIVEN]; ROWS.len()],
+    points: Vec<u64>,
+    saturated: [u64; SATURATED.len()],
+    /// For each row, how often a refusal was given while the next one's line held too.
+    pairs: [[u64; 8]; ROWS.len()],
+    ended: Owner,
+}
+
+impl Default for Coverage {
+    fn default() -> Self {
+        Coverage {
+            steps: 0,
+            given: [[0; GIVEN]; ROWS.len()],
+            points: vec![0; POINTS.len()],
+            saturated: [0; SATURATED.len()],
+            pairs: [[0; 8]; ROWS.len()],
+            ended: Owner::Bind,
+        }
+    }
+}
+
+impl Coverage {
+    /// Counts a step.
+    pub fn note(&mut self, before: &Before, step: Step, seen: u32, stepped: &Stepped) {
+        self.steps += 1;
+        let row = row(before, step, self.ended);
+        self.given[row as usize][given(stepped.next) as usize] += 1;
+        match step {
+            Step::Access(Side::Hypervisor) | Step::HandBack(Side::Hypervisor, _) => {
+                self.note_reply(before, seen, stepped.next);
+            }
+            Step::Access(Side::Guest) | Step::HandBack(Side::Guest, _) => {
+                self.note_service_reply(before, seen, stepped.next);
+            }
+            _ => {}
+        }
+    }
+
+    fn note_reply(&mut self, before: &Before, seen: u32, next: Next) {
+        let (Some(call), Some(entry)) = (before.domain.call, before.entry) else {
+            return;
+        };
+        let points = of_reply(before, &call, entry, seen);
+        points.into_iter().flatten().for_each(|p| self.meet(p));
+        if let Next::Answer(..) = next {
+            self.ended = call.owner;
+        }
+        if call.count == u32::MAX {
+            self.saturated[usize::from(is_access(next))] += 1;
+        }
+    }
+
+    fn note_service_reply(&mut self, before: &Before, seen: u32, next: Next) {
+        let Some(service) = before.guest.call else {
+            return;
+        };
+        self.meet(of_service_reply(&before.guest, service.stage, seen));
+        if service.count == u32::MAX {
+            self.saturated[2 + usize::from(is_access(next))] += 1;
+        }
+    }
+
+    fn meet(&mut self, point: Point) {
+        self.points[point as usize] += 1;
+    }
+
+    /// Counts an input for which the lines `at` and `at + 1` of a row both held and none before.
+    pub fn note_pair(&mut self, row: Row, at: usize) {
+        self.pairs[row as usize][at] += 1;
+    }
+
+    /// Adds the counts of another run.
+    pub fn add(&mut self, other: &Coverage) {
+        self.steps += other.steps;
+        add_all(self.given.as_flattened_mut(), other.given.as_flattened());
+        add_all(&mut self.points, &other.points);
+        add_all(&mut self.saturated, &other.saturated);
+        add_all(self.pairs.as_flattened_mut(), other.pairs.as_flattened());
+    }
+
+    /// Everything that must be met, with how often it was; the same order for every run.
+    pub fn counts(&self) -> Vec<(String, u64)> {
+        let mut counts = Vec::new();
+        for (row, name, gives) in ROWS {
+            for number in gives {
+                let what = what_is_given(*number);
+                let times = self.given[row as usize][*number as usize];
+                counts.push((format!("{name}: {what}"), times));
+            }
+        }
+        for (row, name, gives) in ROWS {
+            for (at, pair) in refusals(gives).windows(2).enumerate() {
+                let times = self.pairs[row as usize][at];
+                counts.push((format!("{name}: {} before {}", pair[0], pair[1]), times));
+            }
+        }
+        let points = POINTS.iter().map(|(_, name)| name.to_string());
+        counts.extend(points.zip(self.points.iter().copied()));
+        let saturated = SATURATED.iter().map(|name| name.to_string());
+        counts.extend(saturated.zip(self.saturated));
+        counts
+    }
+}
+
+/// The refusals of a row, in their order.
+pub fn refusals(gives: &[u32]) -> Vec<u32> {
+    let is_refusal = |number: &&u32| matches!(number, 3..=18);
+    gives.iter().filter(is_refusal).copied().collect()
+}
+
+fn what_is_given(number: u32) -> String {
+    match number {
+        NAMES_ACCESS => "names an access".to_string(),
+        _ => format!("answer {number}"),
+    }
+}
+
+fn add_all(to: &mut [u64], from: &[u64]) {
+    to.iter_mut().zip(from).for_each(|(a, b)| *a += b);
+}
+
+fn is_access(next: Next) -> bool {
+    matches!(next, Next::Access(_))
+}

@@ -1,0 +1,23 @@
+//! Differential tests: the model and the library make the same steps, and everything that either
+//! gives or holds is compared after each.
+//!
+//! - `pair`, `lent`, `compare`: one world of the model beside the library's bytes
+//! - `rows`, `branches`, `coverage`: what a run met
+//! - `honest`, `hostile`, `refusals`, `arbitrary`, `stages`: one history each, from a seed;
+//!   `inputs`: what `refusals` tries
+//! - `campaign`: many histories; `faults`: the test of the tests
+
+pub mod arbitrary;
+pub mod branches;
+pub mod campaign;
+mod compare;
+pub mod coverage;
+pub mod faults;
+pub mod honest;
+pub mod hostile;
+pub mod inputs;
+pub mod lent;
+pub mod pair;
+pub mod refusals;
+pub mod rows;
+pub mod stages;

@@ -1,0 +1,243 @@
+//! Random worlds with arbitrary records, and random steps on them with lying words.
+
+use super::domain::{Domain, Owner, Stage};
+use super::entry::Entry;
+use super::flat::{FlatCall, FlatService, ServiceTag, StageTag};
+use super::guest::Guest;
+use super::machine::{Memory, Side, Step, World};
+use super::Model;
+use crate::random::Random;
+
+const STAGES: [StageTag; 9] = [
+    StageTag::BindRead,
+    StageTag::CloseAnd,
+    StageTag::R1,
+    StageTag::U1,
+    StageTag::R2,
+    StageTag::R3,
+    StageTag::R4,
+    StageTag::R5,
+    StageTag::R6,
+];
+const SERVICES: [Option<ServiceTag>; 7] = [
+    None,
+    None,
+    Some(ServiceTag::G0),
+    Some(ServiceTag::G1),
+    Some(ServiceTag::G2),
+    Some(ServiceTag::G3),
+    Some(ServiceTag::G4),
+];
+const OWNERS: [Option<Owner>; 7] = [
+    None,
+    None,
+    None,
+    Some(Owner::Bind),
+    Some(Owner::Close),
+    Some(Owner::Raise),
+    Some(Owner::Unmask),
+];
+const PORTS: [u32; 14] = [
+    0,
+    1,
+    2,
+    5,
+    9,
+    1023,
+    1024,
+    2047,
+    2048,
+    131_071,
+    131_072,
+    131_077,
+    262_149,
+    u32::MAX,
+];
+const SMALL_PORTS: [u32; 5] = [0, 1, 2, 5, 9];
+const MASKED: u32 = 0x4000_0000;
+const LINKED: u32 = 0x2000_0000;
+/// Entries of bound and unbound ports on queues 0 and 7.
+const ENTRIES: [u16; 7] = [0x0007, 0x0107, 0x0100, 0x0377, 0x0370, 0x0307, 0x0300];
+const COUNTS: [u32; 6] = [0, 1, 4, 9, u32::MAX - 1, u32::MAX];
+
+/// A port, mostly small.
+pub fn port(random: &mut Random) -> u32 {
+    match random.below(8) {
+        0 => random.word(),
+        1 | 2 => random.pick(&PORTS),
+        _ => random.pick(&SMALL_PORTS),
+    }
+}
+
+/// An event word: flags mostly, with any reserved bits and LINK at times.
+pub fn word(random: &mut Random) -> u32 {
+    let flags = (random.below(8) as u32) << 29;
+    match random.below(4) {
+        0 => random.word(),
+        1 => flags | random.pick(&[0, 5, 9, 0x1_FFFF, 0x1_0005]),
+        2 => flags | (random.word() & 0x1FFF_FFFF),
+        _ => flags,
+    }
+}
+
+/// A queue, mostly below 16.
+fn queue(random: &mut Random) -> u32 {
+    match random.below(8) {
+        0 => random.word(),
+        1 => random.pick(&[16, 23, 31, 32, u32::MAX]),
+        _ => random.below(16) as u32,
+    }
+}
+
+fn pages(random: &mut Random) -> u32 {
+    match random.below(4) {
+        0 => random.pick(&[0, 2, 127, 128, 129, 200, u32::MAX]),
+        _ => 1,
+    }
+}
+
+/// A flat call under way with any fields.
+pub fn flat_call(random: &mut Random) -> FlatCall {
+    FlatCall {
+        owner: random.pick(&OWNERS),
+        stage: random.pick(&STAGES),
+        port: port(random),
+        queue: queue(random),
+        word: word(random),
+        tries: random.pick(&[0, 1, 2, 3, 4, 5, u32::MAX]),
+        count: random.pick(&COUNTS),
+    }
+}
+
+/// A flat service under way with any fields.
+pub fn flat_service(random: &mut Random) -> FlatService {
+    FlatService {
+        stage: random.pick(&SERVICES),
+        port: port(random),
+        queue: queue(random),
+        count: random.pick(&COUNTS),
+    }
+}
+
+/// Any hypervisor's record.
+pub fn domain(random: &mut Random) -> Domain {
+    let mut tails = [0; 16];
+    tails.iter_mut().for_each(|tail| *tail = port(random));
+    Domain {
+        given: !random.once_in(6),
+        pages: pages(random),
+        tails,
+        call: flat_call(random).call(),
+    }
+}
+
+/// Any guest's record.
+pub fn guest(random: &mut Random) -> Guest {
+    let mut heads = [0; 16];
+    heads.iter_mut().for_each(|head| *head = port(random));
+    let local = random.pick(&[0, 0, 1, 0x80, 0x81, 0xFFFF, 0xFFFF_0000, 0x8000_0080]);
+    Guest {
+        heads,
+        local,
+        words: random.pick(&[0, 10, 1024, 2048, 131_072, 200_000, u32::MAX]),
+        call: flat_service(random).service(),
+    }
+}
+
+/// Any ledger, mostly short.
+pub fn ledger(random: &mut Random) -> Vec<Entry> {
+    let length = random.pick(&[0, 5, 6, 10, 10, 10, 10, 1030]);
+    let usual = !random.once_in(3);
+    let bits = |_| match usual {
+        true => random.pick(&ENTRIES),
+        false => random.word() as u16,
+    };
+    (0..length).map(bits).map(Entry::from_bits).collect()
+}
+
+/// Any records, ledger and memory.
+pub fn world(random: &mut Random, model: Model) -> World {
+    let mut memory = Memory::zeroed(random.pick(&[0, 8, 16, 1024]));
+    memory.words.iter_mut().for_each(|w| *w = word(random));
+    memory.control.ready = random.word();
+    let head = &mut memory.control.head;
+    head.iter_mut().for_each(|h| *h = port(random));
+    World {
+        model,
+        memory,
+        domain: domain(random),
+        ledger: ledger(random),
+        guest: guest(random),
+    }
+}
+
+/// The world's next step: mostly replies, with words that need not be those in memory.
+pub fn hostile_step(random: &mut Random, world: &World) -> Step {
+    match random.below(20) {
+        0..=5 => Step::HandBack(Side::Hypervisor, hypervisor_word(random, world)),
+        6..=9 => Step::HandBack(Side::Guest, word_or_index(random)),
+        10 => Step::Access(Side::Hypervisor),
+        11 => Step::Access(Side::Guest),
+        12 => Step::Service,
+        13 => Step::Mask(argument(random)),
+        14 => Step::Tell(random.pick(&[0, 1023, 1024, 2048, 200_000, 1 << 33])),
+        _ => start(random),
+    }
+}
+
+/// A word for the hypervisor: often one that leads the call on, or that takes a cas.
+fn hypervisor_word(random: &mut Random, world: &World) -> u32 {
+    let any = word(random);
+    let old = world.model.due(&world.domain).and_then(|a| a.op.old());
+    match (
+        random.below(4),
+        world.domain.call.map(|call| call.stage),
+        old,
+    ) {
+        (0, _, Some(old)) => old,
+        (1..=2, Some(Stage::R3 { .. } | Stage::R4 { .. }), _) => any | LINKED,
+        (1..=2, Some(Stage::R1 | Stage::U1 | Stage::R2), _) => any & !(LINKED | MASKED),
+        _ => any,
+    }
+}
+
+fn word_or_index(random: &mut Random) -> u32 {
+    if random.once_in(2) {
+        word(random)
+    } else {
+        port(random)
+    }
+}
+
+/// A port as an argument: any 64-bit number.
+fn argument(random: &mut Random) -> u64 {
+    if random.once_in(10) {
+        (1 << 32) + u64::from(port(random))
+    } else {
+        u64::from(port(random))
+    }
+}
+
+fn start(random: &mut Random) -> Step {
+    let port = argument(random);
+    match random.below(7) {
+        0 => Step::InitControl {
+            vcpu: random.pick(&[0, 0, 0, 1, 1 << 32]),
+            frame: random.below(4),
+            frames: random.pick(&[2, 4, u64::MAX]),
+            offset: random.pick(&[0, 8, 4_020, 4_024, 4_032, 1 << 32]),
+        },
+        1 => Step::ExpandArray {
+            frame: random.below(4),
+            frames: random.pick(&[2, 4, u64::MAX]),
+        },
+        2 => Step::Bind(port),
+        3 => Step::Close(port),
+        4 => Step::SetPriority {
+            port,
+            priority: random.pick(&[0, 3, 7, 15, 16, 256, 1 << 32]),
+        },
+        5 => Step::Raise(port),
+        _ => Step::Unmask(port),
+    }
+}

@@ -1,0 +1,63 @@
+//! What a step leaves in the history: accesses and answers.
+
+use crate::model::access::Access;
+use crate::model::answer::Answer;
+use crate::model::domain::Call;
+use crate::model::guest::Service;
+use crate::model::kinds::Port;
+
+/// Who makes a step.
+#[derive(Clone, Copy, Debug, PartialEq, Eq)]
+pub enum Side {
+    /// The hypervisor: X in the log.
+    Hypervisor,
+    /// The guest: G in the log.
+    Guest,
+}
+
+/// The call that an access belongs to, as it stood when it named the access.
+#[derive(Clone, Copy, Debug, PartialEq, Eq)]
+pub enum Maker {
+    /// A call of the hypervisor.
+    Call(Call),
+    /// A service.
+    Service(Service),
+    /// A mask.
+    Mask(Port),
+}
+
+/// An access in the history.
+#[derive(Clone, Copy, Debug, PartialEq, Eq)]
+pub struct Accessed {
+    /// The call that named it.
+    pub maker: Maker,
+    /// The access.
+    pub access: Access,
+    /// The word handed back.
+    pub seen: u32,
+    /// Whether it was performed on the memory in this step.
+    pub performed: bool,
+    /// Whether the reply was accepted in this step.
+    pub accepted: bool,
+}
+
+/// One event of a history.
+#[derive(Clone, Copy, Debug, PartialEq, Eq)]
+pub enum Event {
+    /// An access, a reply, or both at once.
+    Accessed(Accessed),
+    /// An answer with its count.
+    Answered(Side, Answer, u32),
+    /// A tell's answer 0, with the number of words after it; the log has no line for it.
+    Told(u32),
+}
+
+impl Maker {
+    /// The side of the call.
+    pub fn side(&self) -> Side {
+        match self {
+            Maker::Call(_) => Side::Hypervisor,
+            Maker::Service(_) | Maker::Mask(_) => Side::Guest,
+        }
+    }
+}

@@ -1,0 +1,49 @@
+//! The independent model: document 01 in plain Rust, with its own data structures.
+//!
+//! - words and records: `kinds`, `word`, `entry`, `access`, `answer`, `domain`, `guest`, `flat`
+//! - rules: `starts` and `replies` (hypervisor), `service` (guest), `decisions`, `seeded`
+//! - `machine`: both sides' steps over lent memory, and the access log
+//! - `claims`: demand 3's four parts and the account of PENDING
+//! - `histories`, `arbitrary`: random rule-keeping steps, random records
+
+pub mod access;
+pub mod answer;
+pub mod arbitrary;
+pub mod claims;
+pub mod decisions;
+pub mod domain;
+pub mod entry;
+pub mod flat;
+pub mod guest;
+pub mod histories;
+pub mod kinds;
+pub mod machine;
+mod replies;
+mod seeded;
+mod service;
+mod starts;
+pub mod word;
+
+pub use access::{Access, Op, Place};
+pub use answer::{Answer, Masking, Next};
+pub use domain::{Call, Domain, Owner, Stage};
+pub use entry::Entry;
+pub use flat::{FlatCall, FlatService, ServiceTag, StageTag};
+pub use guest::{Guest, Service, ServiceStage};
+pub use kinds::{Port, Priority, Queue};
+pub use machine::{Event, Memory, Side, Step, World};
+pub use seeded::Faults;
+pub use word::EventWord;
+
+/// The rules of document 01, with at most one fault seeded.
+#[derive(Clone, Copy, Debug, Default, PartialEq, Eq)]
+pub struct Model {
+    fault: Faults,
+}
+
+impl Model {
+    /// The rules with `fault` seeded; `Faults::None` gives the rules as written.
+    pub fn new(fault: Faults) -> Self {
+        Model { fault }
+    }
+}

@@ -1,0 +1,19 @@
+//! Tests of the model: cases, readings, edges, random histories, seeded faults.
+
+#[macro_use]
+mod support;
+
+mod arbitrary_records;
+mod cases;
+mod claims;
+mod edges;
+mod exhaustive;
+mod faults;
+mod histories;
+mod hostile;
+mod readings_counts;
+mod readings_guest;
+mod readings_records;
+mod readings_refusals;
+mod readings_steps;
+mod refusal_order;
