@@ -214,7 +214,7 @@ module _ {n : ℕ} (w : World) (h : List Event) (k : Good n w h) where
       lists = k .lists;
       inv = subst (λ v. Inv v (callOf n (w .domain .call)) (alone (guestCallOf (w .guest .call))) (k .lists)) (sym view)
           (rw (free-idle n (w .domain .call) (f .free)) (expand-keeps (1024 * (pages + 1)) (omega arith) (rw (free-idle n (w .domain .call) (f .free)) at (k .inv))));
-      sizes = record { array = room; lent = rw (page-length pages (w .memory .words)) (k .sizes .lent); small = small; block = k .sizes .block; tails = k .sizes .tails; heads = k .sizes .heads };
+      sizes = record { array = fits; lent = rw (page-length pages (w .memory .words)) (k .sizes .lent); small = small; block = k .sizes .block; tails = k .sizes .tails; heads = k .sizes .heads };
       fit = k .fit;
       count = k .count;
       guestQueue = k .guestQueue;
@@ -226,11 +226,11 @@ module _ {n : ℕ} (w : World) (h : List Event) (k : Good n w h) where
       pages : ℕ
       pages = w .domain .pages
 
-      room : 1024 * (pages + 1) ≤ 2 ^ n
-      room = let a : pages < 2 ^ n / 1024 = f .few in omega arith
+      fits : 1024 * (pages + 1) ≤ 2 ^ n
+      fits = let a : pages < 2 ^ n / 1024 = f .few in omega arith
 
       few : pages < 1024
-      few = let a = room in let b : 2 ^ n ≤ 2 ^ 20 = pow-mono (wide .most) in omega arith
+      few = let a = fits in let b : 2 ^ n ≤ 2 ^ 20 = pow-mono (wide .most) in omega arith
 
       view : viewOf n (record { domain = record { given = w .domain .given; pages = pages + 1; tails = w .domain .tails; call = w .domain .call }; ledger = w .ledger; guest = w .guest; memory = memory (zeroPage pages (w .memory .words)) (w .memory .block) }) ≡ expand (1024 * (pages + 1)) (viewOf n w)
       view = agree (record {
