@@ -2,7 +2,7 @@
 #include <stdlib.h>
 
 #include "check.h"
-#include "world.h"
+#include "../world.h"
 
 static world w;
 
