@@ -1,23 +1,32 @@
-# make demo                  the logs of the scope's cases, printed by the proved code
-# make test                  the gate: layout, formatting, every proof from nothing, must-fail edits, programs, host tests
-# make lib                   both archives for C, in target/lib: for user space, and for a hypervisor
-# make install PREFIX=DIR    archives, headers and a pkg-config file below DIR (default /usr/local); make uninstall PREFIX=DIR
-# make benchmark             instructions of a raise against hand-written C, by callgrind; not part of the gate
-# make fuzz MINUTES=n        the differential tests for n minutes, from fresh seeds
-# make mutants               every edit under mutants/, which the prover must refuse; not part of the gate
-# make setup                 installs what the tests need beside the Rattle toolchain
+# make demo SECONDS=n DOMAINS=n  many domains in threads over the proved archive; prints a table and checks its claims
+# make test                      the gate: layout, formatting, every proof from nothing, must-fail edits, programs, host tests
+# make lib                       both archives for C, in target/lib: for user space, and for a hypervisor
+# make install PREFIX=DIR        archives, headers and a pkg-config file below DIR (default /usr/local); make uninstall PREFIX=DIR
+# make benchmark                 instructions of a raise against hand-written C, by callgrind; not part of the gate
+# make fuzz MINUTES=n            the differential tests for n minutes, from fresh seeds
+# make mutants                   every edit under mutants/, which the prover must refuse; not part of the gate
+# make setup                     installs what the tests need beside the Rattle toolchain
 .PHONY: demo test lib install uninstall benchmark fuzz mutants setup
 PREFIX = /usr/local
 MINUTES = 10
+SECONDS = 5
+DOMAINS = 40
+
+archive = target/lib/libevtchn_fifo.a
+proved = $(shell find crates/word crates/calls crates/evtchn_fifo -name '*.rt' -o -name '*.antt') crates.txt tools/archives
 
 test:
 	@tools/test
 
-demo:
-	@rt check cases
-	@target/bin/cases
+demo: target/demo/demo
+	@target/demo/demo $(SECONDS) $(DOMAINS)
 
-lib:
+target/demo/demo: $(wildcard host/c/demo/* host/include/*) host/c/world.h tools/build-demo $(archive)
+	@tools/build-demo $(archive) $@
+
+lib: $(archive)
+
+$(archive): $(proved)
 	@tools/archives
 
 install:
@@ -29,8 +38,7 @@ uninstall:
 benchmark:
 	@tools/benchmark
 
-fuzz:
-	@[ -f target/lib/libevtchn_fifo.a ] || tools/archives
+fuzz: $(archive)
 	@MINUTES=$(MINUTES) host/rust/run-tests
 
 mutants:

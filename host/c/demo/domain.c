@@ -1,0 +1,201 @@
+/* The calls on a domain: the library names an access, this host performs it and hands back the word seen, until the answer. */
+#include <sched.h>
+#include <string.h>
+
+#include "domain.h"
+
+/* of both pages, with their first and last words */
+const uint32_t ports[PORTS] = {1, 2, 3, 5, 9, 100, 511, 512, 1022, 1023, 1024, 1025, 1500, 2000, 2046, 2047};
+
+/* A side gives way after so many accesses, so that the other comes between two of a call even on one processor. */
+static const uint32_t gives_way[CONDUCTS] = {61, 61, 61, 5};
+
+typedef enum side { HYPERVISOR, GUEST } side;
+
+static void count_access(domain *d, evtchn_fifo_next next, uint32_t seen)
+{
+    unsigned kind = evtchn_fifo_kind_of(next);
+    port_account *account;
+    if (evtchn_fifo_place_of(next) != EVTCHN_FIFO_WORD)
+        return;
+    account = &d->accounts[next.index];
+    if (kind == EVTCHN_FIFO_OR && next.value == PENDING) { /* R1 */
+        if (seen & PENDING)
+            account->coalesced++;
+        else
+            account->events++;
+        atomic_fetch_add_explicit(&d->raises, 1, memory_order_relaxed);
+    }
+    if (kind == EVTCHN_FIFO_AND && next.value == ~PENDING && (seen & PENDING)) /* a close's */
+        account->closed++;
+}
+
+/* Any refusal but 4, 5 and 7, which closes and binds bring about, and 18, which is counted by itself. */
+static bool is_unexpected(uint32_t code)
+{
+    switch (code) {
+    case EVTCHN_FIFO_DONE:
+    case EVTCHN_FIFO_UPCALL_WANTED:
+    case EVTCHN_FIFO_LINK_ABANDONED:
+    case EVTCHN_FIFO_NOT_BOUND:
+    case EVTCHN_FIFO_ALREADY_BOUND:
+    case EVTCHN_FIFO_STILL_LINKED:
+    case EVTCHN_FIFO_BAD_INDEX:
+    case EVTCHN_FIFO_HANDED_OVER:
+    case EVTCHN_FIFO_NOTHING_READY:
+    case EVTCHN_FIFO_TAKEN:
+        return false;
+    default:
+        return true;
+    }
+}
+
+static void count_answer(tally *t, evtchn_fifo_next next, uint32_t made)
+{
+    if (made > t->longest)
+        t->longest = made;
+    t->abandoned += next.code == EVTCHN_FIFO_LINK_ABANDONED;
+    t->bad_index += next.code == EVTCHN_FIFO_BAD_INDEX;
+    t->miscounted += next.value != made;
+    t->refused += is_unexpected(next.code);
+}
+
+/* A call of a side, from its start to its answer. An access outside what is mapped is counted and not made. */
+static evtchn_fifo_next run(domain *d, side side, evtchn_fifo_next next)
+{
+    tally *t = side == HYPERVISOR ? &d->hypervisor : &d->guest;
+    uint32_t made = 0, seen;
+    while (evtchn_fifo_is_access(next)) {
+        if (!evtchn_fifo_perform(&d->shared, next, &seen)) {
+            t->outside++;
+            return next;
+        }
+        made++;
+        if (++t->accesses % gives_way[d->conduct] == 0)
+            sched_yield();
+        if (side == HYPERVISOR) {
+            count_access(d, next, seen);
+            next = evtchn_fifo_domain_reply(&d->record, d->ledger, WORDS, seen);
+        } else {
+            next = evtchn_fifo_guest_service_reply(&d->guest_record, seen);
+        }
+    }
+    count_answer(t, next, made);
+    return next;
+}
+
+/* The rest of a hypervisor's call whose start came to next; the lock is held, and is given back. */
+static uint32_t finish(domain *d, evtchn_fifo_next next)
+{
+    next = run(d, HYPERVISOR, next);
+    pthread_mutex_unlock(&d->lock);
+    if (next.code == EVTCHN_FIFO_UPCALL_WANTED)
+        upcall_want(&d->upcall);
+    return next.code;
+}
+
+uint32_t domain_bind(domain *d, uint32_t port)
+{
+    pthread_mutex_lock(&d->lock);
+    return finish(d, evtchn_fifo_domain_bind(&d->record, d->ledger, WORDS, port));
+}
+
+uint32_t domain_close(domain *d, uint32_t port)
+{
+    pthread_mutex_lock(&d->lock);
+    return finish(d, evtchn_fifo_domain_close(&d->record, d->ledger, WORDS, port));
+}
+
+uint32_t domain_set_priority(domain *d, uint32_t port, uint32_t priority)
+{
+    pthread_mutex_lock(&d->lock);
+    return finish(d, evtchn_fifo_domain_set_priority(&d->record, d->ledger, WORDS, port, priority));
+}
+
+uint32_t domain_raise(domain *d, uint32_t port)
+{
+    pthread_mutex_lock(&d->lock);
+    return finish(d, evtchn_fifo_domain_raise(&d->record, d->ledger, WORDS, port));
+}
+
+uint32_t domain_unmask(domain *d, uint32_t port)
+{
+    pthread_mutex_lock(&d->lock);
+    return finish(d, evtchn_fifo_domain_unmask(&d->record, d->ledger, WORDS, port));
+}
+
+uint32_t domain_service(domain *d, uint32_t *port)
+{
+    evtchn_fifo_next next = run(d, GUEST, evtchn_fifo_guest_service(&d->guest_record));
+    *port = next.index;
+    if (next.code == EVTCHN_FIFO_HANDED_OVER) {
+        d->accounts[next.index].handed_over++;
+        atomic_fetch_add_explicit(&d->hand_overs, 1, memory_order_relaxed);
+    }
+    return next.code;
+}
+
+void domain_mask(domain *d, uint32_t port)
+{
+    uint32_t seen;
+    if (!evtchn_fifo_perform(&d->shared, evtchn_fifo_mask(port, WORDS), &seen))
+        d->guest.outside++;
+}
+
+static void fresh(domain *d)
+{
+    uint32_t k;
+    memset(d, 0, sizeof *d);
+    pthread_mutex_init(&d->lock, NULL);
+    pthread_mutex_init(&d->upcall.lock, NULL);
+    pthread_cond_init(&d->upcall.changed, NULL);
+    for (k = 0; k < PAGES; k++)
+        d->pages[k] = d->array[k];
+    d->shared = (evtchn_fifo_shared){d->control, d->pages, WORDS};
+    evtchn_fifo_domain_fresh(&d->record);
+    evtchn_fifo_guest_fresh(&d->guest_record);
+    evtchn_fifo_ledger_fresh(d->ledger, WORDS);
+}
+
+bool domain_begin(domain *d, conduct conduct, uint64_t seed)
+{
+    uint32_t k, refusals;
+    fresh(d);
+    d->conduct = conduct;
+    d->seed = seed;
+    refusals = evtchn_fifo_domain_init_control(&d->record, 0, 0, 1, 0).code;
+    for (k = 0; k < PAGES; k++)
+        refusals |= evtchn_fifo_domain_expand_array(&d->record, 0, 1).code;
+    evtchn_fifo_guest_tell(&d->guest_record, WORDS);
+    for (k = 0; k < PORTS; k++)
+        refusals |= domain_bind(d, ports[k]) | domain_set_priority(d, ports[k], k % 4 * 5);
+    return refusals == EVTCHN_FIFO_DONE;
+}
+
+void upcall_want(upcall *u)
+{
+    pthread_mutex_lock(&u->lock);
+    u->wanted = true;
+    pthread_cond_signal(&u->changed);
+    pthread_mutex_unlock(&u->lock);
+}
+
+void upcall_stop(upcall *u)
+{
+    pthread_mutex_lock(&u->lock);
+    u->stopped = true;
+    pthread_cond_signal(&u->changed);
+    pthread_mutex_unlock(&u->lock);
+}
+
+bool upcall_wait(upcall *u)
+{
+    bool taken;
+    pthread_mutex_lock(&u->lock);
+    while (!u->wanted && !u->stopped)
+        pthread_cond_wait(&u->changed, &u->lock);
+    taken = u->wanted;
+    u->wanted = false;
+    pthread_mutex_unlock(&u->lock);
+    return taken;
+}

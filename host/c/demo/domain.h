@@ -1,0 +1,102 @@
+/* A domain of the demo: the hypervisor's record and ledger under one lock, the memory shared with its guest, the guest's own
+ * record, and what both sides count of their accesses and answers. */
+#ifndef DEMO_DOMAIN_H
+#define DEMO_DOMAIN_H
+
+#include <pthread.h>
+#include <stdatomic.h>
+#include <stdbool.h>
+
+#include "evtchn_fifo_atomic.h"
+
+#define PAGES 2u
+#define WORDS (PAGES * EVTCHN_FIFO_PAGE_WORDS)
+#define PORTS 16u
+
+#define PENDING 0x80000000u
+#define MASKED 0x40000000u
+#define LINKED 0x20000000u
+
+/* How a guest behaves, and what the hypervisor does with its ports beside raises. */
+typedef enum conduct {
+    PLAIN,     /* services */
+    MASKING,   /* services, masks, and asks for unmask */
+    REOPENING, /* services, while ports are closed, bound again and given other priorities */
+    HOSTILE,   /* services, and writes random words all the time */
+    CONDUCTS
+} conduct;
+
+/* One port's events; the first three are counted by the hypervisor, the last by the guest. */
+typedef struct port_account {
+    uint64_t events;      /* raises that found PENDING clear and set it */
+    uint64_t coalesced;   /* raises that found it set */
+    uint64_t closed;      /* closes that found it set */
+    uint64_t handed_over; /* answers 19 */
+} port_account;
+
+/* What one side counts of its calls. */
+typedef struct tally {
+    uint32_t longest;     /* most accesses of a call */
+    uint64_t abandoned;   /* answers 2 */
+    uint64_t bad_index;   /* answers 18 */
+    uint64_t outside;     /* accesses named outside the array and the control block */
+    uint64_t miscounted;  /* answers whose count is not the number of accesses made */
+    uint64_t refused;     /* refusals that no call of the demo may get */
+    uint64_t accesses;
+} tally;
+
+/* What wakes an idle guest. */
+typedef struct upcall {
+    pthread_mutex_t lock;
+    pthread_cond_t changed;
+    bool wanted, stopped;
+} upcall;
+
+typedef struct domain {
+    conduct conduct;
+    uint64_t seed;
+
+    pthread_mutex_t lock; /* record and ledger, from a call's start to its answer */
+    evtchn_fifo_domain record;
+    uint16_t ledger[WORDS];
+    tally hypervisor;
+    atomic_ullong raises; /* for the progress line */
+
+    uint32_t control[EVTCHN_FIFO_CONTROL_WORDS];
+    uint32_t array[PAGES][EVTCHN_FIFO_PAGE_WORDS];
+    uint32_t *pages[PAGES];
+    evtchn_fifo_shared shared;
+
+    evtchn_fifo_guest guest_record;
+    tally guest;
+    atomic_ullong hand_overs; /* for the progress line */
+    upcall upcall;
+
+    port_account accounts[WORDS];
+} domain;
+
+extern const uint32_t ports[PORTS];
+
+/* A fresh domain with two pages, told to its guest, and its ports bound on several priorities; false where a call refuses. */
+bool domain_begin(domain *d, conduct conduct, uint64_t seed);
+
+/* The hypervisor's calls, each from its start to its answer with the lock held: the answer's number. */
+uint32_t domain_bind(domain *d, uint32_t port);
+uint32_t domain_close(domain *d, uint32_t port);
+uint32_t domain_set_priority(domain *d, uint32_t port, uint32_t priority);
+uint32_t domain_raise(domain *d, uint32_t port);
+uint32_t domain_unmask(domain *d, uint32_t port);
+
+/* One service of the guest's, from its start to its answer: the answer's number. The port is that of 19 and 21. */
+uint32_t domain_service(domain *d, uint32_t *port);
+
+/* A mask of the guest's, with its access. */
+void domain_mask(domain *d, uint32_t port);
+
+void upcall_want(upcall *u);
+void upcall_stop(upcall *u);
+
+/* Waits for an upcall and takes it; false where none is left and no more will come. */
+bool upcall_wait(upcall *u);
+
+#endif

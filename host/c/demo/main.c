@@ -1,0 +1,174 @@
+/*
+ * demo SECONDS DOMAINS: one host with many domains, in threads over real atomics. Prints the log of C1, runs for some seconds, and
+ * ends with a table and with the claims that it checked. Exit status 0 if all hold, 1 if one fails, 2 if it can't run.
+ */
+#define _POSIX_C_SOURCE 200809L
+#include <stdio.h>
+#include <stdlib.h>
+#include <time.h>
+#include <unistd.h>
+
+#include "../world.h"
+#include "report.h"
+
+#define HYPERVISOR_THREADS 4u
+#define MOST_DOMAINS 256u
+
+static const char c1[] = "accesses\t1\n"
+                         "X\tor\tw5\t-\t80000000\t00000000\n"
+                         "X\tor\tw5\t-\t20000000\t80000000\n"
+                         "X\tstore\th7\t-\t00000005\t-\n"
+                         "X\tor\tready\t-\t00000080\t00000000\n"
+                         "X\tanswer\t1\t-\t-\t-\n";
+
+static void fail(const char *text)
+{
+    fprintf(stderr, "demo: %s\n", text);
+    exit(2);
+}
+
+/* The raise of C1 on a domain of its own: whether its log is document 01's. */
+static bool show_c1(void)
+{
+    static world w;
+    world_fresh(&w);
+    w.quiet = 1;
+    world_begin(&w);
+    world_bind(&w, 5);
+    w.quiet = 0;
+    world_write(&w, "accesses\t1");
+    world_raise(&w, 5);
+    printf("The access log of case C1, a raise of port 5 on an empty queue:\n\n%s\n", w.log);
+    return strcmp(w.log, c1) == 0;
+}
+
+static double now(void)
+{
+    struct timespec time;
+    clock_gettime(CLOCK_MONOTONIC, &time);
+    return (double)time.tv_sec + (double)time.tv_nsec / 1e9;
+}
+
+static void sleep_for(double seconds)
+{
+    struct timespec time = {(time_t)seconds, (long)((seconds - (double)(time_t)seconds) * 1e9)};
+    nanosleep(&time, NULL);
+}
+
+static unsigned long long total(const host *h, bool of_raises)
+{
+    unsigned long long sum = 0;
+    uint32_t k;
+    for (k = 0; k < h->count; k++)
+        sum += atomic_load_explicit(of_raises ? &h->domains[k].raises : &h->domains[k].hand_overs, memory_order_relaxed);
+    return sum;
+}
+
+/* On a terminal one line that is written over, else a line each second. */
+static void show_progress(const host *h, double begun, unsigned seconds)
+{
+    bool terminal = isatty(STDOUT_FILENO);
+    double step = terminal ? 0.2 : 1, elapsed = 0;
+    while (elapsed < seconds) {
+        sleep_for(seconds - elapsed < step ? seconds - elapsed : step);
+        elapsed = now() - begun;
+        printf("%s%.1f of %u s: %llu raises, %llu hand-overs%s", terminal ? "\r" : "", elapsed, seconds, total(h, true), total(h, false), terminal ? "" : "\n");
+        fflush(stdout);
+    }
+    printf(terminal ? "\n\n" : "\n");
+}
+
+/* The threads of a run. */
+typedef struct crew {
+    pthread_t hypervisor[HYPERVISOR_THREADS], guest[MOST_DOMAINS], writer[MOST_DOMAINS];
+    hypervisor_thread hypervisors[HYPERVISOR_THREADS];
+    guest_thread guests[MOST_DOMAINS];
+} crew;
+
+static void start(pthread_t *thread, void *(*run)(void *), void *argument)
+{
+    if (pthread_create(thread, NULL, run, argument) != 0)
+        fail("a thread can't be started: try fewer DOMAINS");
+}
+
+static void start_all(crew *c, host *h)
+{
+    uint32_t k;
+    for (k = 0; k < h->count; k++) {
+        bool hostile = h->domains[k].conduct == HOSTILE;
+        c->guests[k] = (guest_thread){&h->domains[k], h};
+        start(&c->guest[k], hostile ? hostile_run : guest_run, &c->guests[k]);
+        if (hostile)
+            start(&c->writer[k], hostile_write_run, &c->guests[k]);
+    }
+    for (k = 0; k < HYPERVISOR_THREADS; k++) {
+        c->hypervisors[k] = (hypervisor_thread){h, 1000 + k};
+        start(&c->hypervisor[k], hypervisor_run, &c->hypervisors[k]);
+    }
+}
+
+/* No more raises, then no more upcalls: guests serve what is left and end. */
+static void end_all(crew *c, host *h)
+{
+    uint32_t k;
+    atomic_store(&h->stopped, true);
+    for (k = 0; k < HYPERVISOR_THREADS; k++)
+        pthread_join(c->hypervisor[k], NULL);
+    for (k = 0; k < h->count; k++) {
+        upcall_stop(&h->domains[k].upcall);
+        pthread_join(c->guest[k], NULL);
+        if (h->domains[k].conduct == HOSTILE)
+            pthread_join(c->writer[k], NULL);
+    }
+}
+
+/* Of five domains two are plain, and one is of each other conduct. */
+static void begin_domains(host *h, uint32_t count)
+{
+    static const conduct conducts[] = {PLAIN, MASKING, REOPENING, HOSTILE, PLAIN};
+    uint32_t k;
+    h->count = count;
+    h->domains = calloc(count, sizeof *h->domains);
+    if (h->domains == NULL)
+        fail("no memory for the domains");
+    for (k = 0; k < count; k++)
+        if (!domain_begin(&h->domains[k], conducts[k % 5], k + 1))
+            fail("a domain's first calls were refused");
+}
+
+static unsigned number(const char *text, const char *name, unsigned most)
+{
+    char *end;
+    unsigned long value = strtoul(text, &end, 10);
+    if (*text < '0' || *text > '9' || *end != 0 || value < 1 || value > most) {
+        fprintf(stderr, "demo: %s must be a number from 1 to %u, it is '%s'\n", name, most, text);
+        exit(2);
+    }
+    return (unsigned)value;
+}
+
+int main(int words, char **word)
+{
+    static crew c;
+    static host h;
+    unsigned seconds, count;
+    double begun, elapsed;
+    bool holds;
+    if (words != 3)
+        fail("use: demo SECONDS DOMAINS");
+    seconds = number(word[1], "SECONDS", 3600);
+    count = number(word[2], "DOMAINS", MOST_DOMAINS);
+    holds = show_c1();
+    begin_domains(&h, count);
+    printf("%u domains, %u threads of the hypervisor's, a thread for each guest, one more for each hostile guest:\n\n", count, HYPERVISOR_THREADS);
+    begun = now();
+    start_all(&c, &h);
+    show_progress(&h, begun, seconds);
+    elapsed = now() - begun;
+    end_all(&c, &h);
+    report_table(&h, elapsed);
+    printf("\n%-6s %-11s the log of C1 is document 01's\n", holds ? "holds" : "FAILS", "all");
+    holds = report_claims(&h) && holds;
+    printf("\n%s\n", holds ? "Every claim holds." : "A claim FAILS.");
+    return holds ? 0 : 1;
+}

@@ -1,0 +1,183 @@
+/* Sums over domains and ports, the table, and the claims. The account of a port: the times that PENDING went from clear to set are
+ * its hand-overs, and the closes that found it set, and one if it is set now. */
+#include <inttypes.h>
+#include <stdio.h>
+
+#include "report.h"
+
+/* Demand 1's limits, and that of a raise of a guest that keeps the rules. */
+#define MOST_ACCESSES 9u
+#define MOST_OF_A_SERVICE 5u
+#define MOST_WITH_RULES_KEPT 8u
+
+typedef struct group {
+    uint32_t domains, longest;
+    uint64_t raises, hand_overs, coalesced, closed, lost, doubled, abandoned;
+} group;
+
+static const char *const names[CONDUCTS] = {"plain", "masking", "reopening", "hostile"};
+
+static uint32_t word_of(const domain *d, uint32_t port)
+{
+    return d->array[port / EVTCHN_FIFO_PAGE_WORDS][port % EVTCHN_FIFO_PAGE_WORDS];
+}
+
+static void add_port(group *g, const domain *d, uint32_t port)
+{
+    const port_account *account = &d->accounts[port];
+    uint64_t due = account->events - account->closed - ((word_of(d, port) & PENDING) != 0);
+    g->raises += account->events + account->coalesced;
+    g->hand_overs += account->handed_over;
+    g->coalesced += account->coalesced;
+    g->closed += account->closed;
+    if (due > account->handed_over)
+        g->lost += due - account->handed_over;
+    else
+        g->doubled += account->handed_over - due;
+}
+
+static group sum(const host *h, conduct conduct)
+{
+    group g = {0};
+    uint32_t k, port;
+    for (k = 0; k < h->count; k++) {
+        const domain *d = &h->domains[k];
+        if (d->conduct != conduct)
+            continue;
+        g.domains++;
+        g.longest = d->hypervisor.longest > g.longest ? d->hypervisor.longest : g.longest;
+        g.abandoned += d->hypervisor.abandoned;
+        for (port = 0; port < WORDS; port++)
+            add_port(&g, d, port);
+    }
+    return g;
+}
+
+/* A number with a comma before each group of three digits, right in its column. */
+static void print_number(uint64_t number, int width)
+{
+    char text[32];
+    int at = (int)sizeof text, digits = 0;
+    text[--at] = 0;
+    do {
+        if (digits > 0 && digits % 3 == 0)
+            text[--at] = ',';
+        text[--at] = (char)('0' + number % 10);
+        number /= 10;
+        digits++;
+    } while (number > 0);
+    printf("%*s", width, text + at);
+}
+
+static void print_group(const char *name, const group *g, bool keeps_rules, double seconds)
+{
+    printf("%-10s", name);
+    print_number(g->domains, 8);
+    print_number(g->raises, 13);
+    print_number(g->hand_overs, 13);
+    print_number(g->coalesced, 13);
+    if (keeps_rules) {
+        print_number(g->closed, 9);
+        print_number(g->lost, 6);
+        print_number(g->doubled, 8);
+    } else {
+        printf("%9s%6s%8s", "-", "-", "-");
+    }
+    print_number(g->abandoned, 10);
+    print_number(g->longest, 8);
+    print_number((uint64_t)((double)g->hand_overs / seconds), 11);
+    printf("\n");
+}
+
+void report_table(const host *h, double seconds)
+{
+    int c;
+    printf("%-10s%8s%13s%13s%13s%9s%6s%8s%10s%8s%11s\n", "guests", "domains", "raises", "hand-overs", "coalesced", "closed", "lost",
+           "doubled", "abandoned", "longest", "events/s");
+    for (c = 0; c < CONDUCTS; c++) {
+        group g = sum(h, (conduct)c);
+        if (g.domains > 0)
+            print_group(names[c], &g, c != HOSTILE, seconds);
+    }
+    printf("\nRaises are hand-overs, coalesced and closed (a close found the event pending). What a hostile guest loses is its own.\n");
+}
+
+/* ---- the claims: each is a count of what speaks against it ---- */
+
+typedef uint64_t against(const domain *d);
+
+/* ports whose account does not agree */
+static uint64_t wrong_accounts(const domain *d)
+{
+    uint64_t wrong = 0;
+    uint32_t port;
+    for (port = 0; port < WORDS; port++) {
+        group g = {0};
+        add_port(&g, d, port);
+        wrong += g.lost + g.doubled > 0;
+    }
+    return wrong;
+}
+
+/* words that are LINKED, or PENDING and not MASKED, when the threads have ended */
+static uint64_t left_behind(const domain *d)
+{
+    uint64_t left = 0;
+    uint32_t port;
+    for (port = 0; port < WORDS; port++) {
+        uint32_t word = word_of(d, port);
+        left += (word & LINKED) != 0 || (word & (PENDING | MASKED)) == PENDING;
+    }
+    return left;
+}
+
+static uint64_t nothing_handed_over(const domain *d) { return atomic_load(&d->hand_overs) == 0; }
+static uint64_t abandoned(const domain *d) { return d->hypervisor.abandoned; }
+static uint64_t bad_indices(const domain *d) { return d->guest.bad_index; }
+static uint64_t long_raises(const domain *d) { return d->hypervisor.longest > MOST_WITH_RULES_KEPT; }
+static uint64_t long_calls(const domain *d) { return d->hypervisor.longest > MOST_ACCESSES || d->guest.longest > MOST_OF_A_SERVICE; }
+static uint64_t outside(const domain *d) { return d->hypervisor.outside + d->guest.outside; }
+static uint64_t miscounted(const domain *d) { return d->hypervisor.miscounted + d->guest.miscounted; }
+static uint64_t refused(const domain *d) { return d->hypervisor.refused + d->guest.refused; }
+
+static const struct claim {
+    const char *text;
+    against *against;
+    bool of_hostile_too;
+} claims[] = {
+    {"each port's events are its hand-overs and those that a close found", wrong_accounts, false},
+    {"at the end no port is linked, and what is pending is masked", left_behind, false},
+    {"each guest was handed events", nothing_handed_over, false},
+    {"no link is abandoned (2)", abandoned, false},
+    {"no service is refused an index (18)", bad_indices, false},
+    {"no call makes more than eight accesses", long_raises, false},
+    {"no call makes more than nine accesses, no service more than five", long_calls, true},
+    {"no access is outside the array and the control block", outside, true},
+    {"each answer's count is the number of accesses made", miscounted, true},
+    {"no call is refused but for a port not bound, bound already or still linked", refused, true},
+};
+
+static uint64_t count_against(const host *h, const struct claim *claim)
+{
+    uint64_t count = 0;
+    uint32_t k;
+    for (k = 0; k < h->count; k++)
+        if (claim->of_hostile_too || h->domains[k].conduct != HOSTILE)
+            count += claim->against(&h->domains[k]);
+    return count;
+}
+
+bool report_claims(const host *h)
+{
+    bool all = true;
+    size_t k;
+    for (k = 0; k < sizeof claims / sizeof *claims; k++) {
+        uint64_t count = count_against(h, &claims[k]);
+        printf("%-6s %-11s %s", count == 0 ? "holds" : "FAILS", claims[k].of_hostile_too ? "all" : "rules kept", claims[k].text);
+        if (count > 0)
+            printf(" (%" PRIu64 " against it)", count);
+        printf("\n");
+        all = all && count == 0;
+    }
+    return all;
+}
