@@ -14,11 +14,11 @@ use Rattle.calls.specs.declared.types.GuestCall.{GuestCall}
 use Rattle.calls.specs.declared.types.Guest.{Guest}
 use Rattle.calls.specs.declared.types.Answer.{Answer}
 use Rattle.calls.specs.declared.guest.GuestMove.{GuestMove}
-use Rattle.calls.specs.Guest.{isServing, guestMoved, guestNext, withGuestCall, withWords}
+use Rattle.calls.specs.Guest.{isServing, guestStagedAt, guestStaged, guestMoved, guestNext, withGuestCall, withWords}
 use Rattle.evtchn_fifo.specs.Numbers.{numberAt, putNumber, numbersAt, putValue, putValues}
 use Rattle.evtchn_fifo.specs.Encoded.{encodedNext}
 use Rattle.evtchn_fifo.specs.GuestRecord.{guestStageCode, guestStageOf, serviceAt, guestAt, putService, putGuestMove, putGuest}
-use Rattle.evtchn_fifo.specs.Guest.{serviceNextAt}
+use Rattle.evtchn_fifo.specs.Guest.{serviceNextAt, headFor}
 use Rattle.evtchn_fifo.proofs.NumberLaws.{length-put, before, after, read-back, kept-before, kept-after, numbers-kept, values-set, value-after, length-puts, sixteen-back}
 
 guest-stage-back : (s : GuestStage) → guestStageOf (guestStageCode s) ≡ s
@@ -115,6 +115,20 @@ guest-back r g h n =
     let b : numberAt 3 w 64 ≡ g .ready = kept-before u 68 (g .words) 64 refl ∙ read-back 88 s 64 (g .ready) (rw ls h) refl in
     let c : numberAt 3 w 68 ≡ g .words = read-back 88 u 68 (g .words) (rw lu h) refl in
     guest-call w (g .call) (rw lw h) ∙ with-parts w g a b c
+
+-- ---- a reply looks at a head only at G0
+
+head-at : (n : ℕ) (s : GuestStage) (c : GuestCall) (ready words head seen : ℕ) → guestStagedAt n s c ready words (headFor s head) seen ≡ guestStagedAt n s c ready words head seen
+head-at n None c ready words head seen = refl
+head-at n G0 c ready words head seen = refl
+head-at n G1 c ready words head seen = refl
+head-at n G2 c ready words head seen = refl
+head-at n G3 c ready words head seen = refl
+head-at n G4 c ready words head seen = refl
+
+pub head-only-at-G0 : (n : ℕ) (c : GuestCall) (ready words head seen : ℕ) → guestStaged n c ready words (headFor (c .stage) head) seen ≡ guestStaged n c ready words head seen
+unfolding guestStaged
+head-only-at-G0 n c ready words head seen = head-at n (c .stage) c ready words head seen
 
 -- ---- the access that is due, or the answer
 

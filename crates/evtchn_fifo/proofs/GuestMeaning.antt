@@ -17,11 +17,11 @@ use Rattle.calls.specs.Records.{guestCallAt, guestIdle, freshGuest}
 use Rattle.calls.specs.Guest.{isServing, serviceQueue, guestNext, guestDueOf, serviceStart, serviceReply, guestMoved, guestMove, guestCarriedOut, tellOf, withWords}
 use Rattle.evtchn_fifo.specs.Numbers.{numberAt, numbersAt, narrow}
 use Rattle.evtchn_fifo.specs.Encoded.{encodedNext}
-use Rattle.evtchn_fifo.specs.GuestRecord.{guestSize, guestAt, guestStageOf, serviceAt, readyAt, wordsAt, withoutHeads}
+use Rattle.evtchn_fifo.specs.GuestRecord.{guestSize, guestAt, guestStageOf, headAt, serviceAt, readyAt, wordsAt, withoutHeads}
 use Rattle.evtchn_fifo.specs.Guest.{serviceNextAt, toldBytes, serviceBytes, serviceReplyBytes, serviceDueBytes, guestMoveBytes, guestMoveAt, tellBytes, freshGuestBytes}
 use Rattle.evtchn_fifo.specs.Claims.{meantGuest, toldGuest, GuestCalls}
 use Rattle.evtchn_fifo.proofs.NumberLaws.{value-is}
-use Rattle.evtchn_fifo.proofs.GuestLaws.{guest-call, guest-words, guest-move, guest-back, the-service, service-next}
+use Rattle.evtchn_fifo.proofs.GuestLaws.{head-only-at-G0, guest-call, guest-words, guest-move, guest-back, the-service, service-next}
 
 enough : (r : List ℕ) → guestSize ≤ length r → ltb (length r) guestSize ≡ false
 enough r h = le-ltb (length r) guestSize h
@@ -44,7 +44,7 @@ service-by n r false e h =
 
 move-is : (n : ℕ) (r : List ℕ) (seen : ℕ) → guestMoveAt n r seen ≡ guestMove n (guestAt r) seen
 unfolding guestAt
-move-is n r seen = rw (value-is 0 r (serviceQueue (readyAt r) seen .0))
+move-is n r seen = rw (head-only-at-G0 n (serviceAt r) (readyAt r) (wordsAt r) (headAt r (serviceQueue (readyAt r) seen .0)) seen, value-is 0 r (serviceQueue (readyAt r) seen .0))
 
 moved-call : (g : Guest) (m : GuestMove) → guestMoved g m .call ≡ m .call
 unfolding guestMoved

@@ -11,6 +11,8 @@ use Rattle.calls.specs.declared.types.Answer.{Answer}
 use Rattle.calls.specs.declared.types.Answer.the-variants.{NoCall}
 use Rattle.calls.specs.declared.types.Next.{Next}
 use Rattle.calls.specs.declared.types.Next.the-variants as next
+use Rattle.calls.specs.declared.types.GuestStage.{GuestStage}
+use Rattle.calls.specs.declared.types.GuestStage.the-variants.{None, G0, G1, G2, G3, G4}
 use Rattle.calls.specs.declared.types.GuestCall.{GuestCall}
 use Rattle.calls.specs.declared.types.GuestOutcome.{GuestOutcome}
 use Rattle.calls.specs.declared.guest.GuestMove.{GuestMove}
@@ -38,9 +40,17 @@ serviceBytes n r =
     cond (ltb (length r) guestSize) (wrote tooShort r)
     (beganOf r (serviceStart n (withoutHeads 0 (serviceAt r))))
 
--- its reply
+-- its reply; only G0's looks at a head h
+abbrev pub headFor : GuestStage → ℕ → ℕ
+headFor None h = 0
+headFor G0 h = h
+headFor G1 h = 0
+headFor G2 h = 0
+headFor G3 h = 0
+headFor G4 h = 0
+
 abbrev pub guestMoveAt : ℕ → List ℕ → ℕ → GuestMove
-guestMoveAt n r seen = guestStaged n (serviceAt r) (readyAt r) (wordsAt r) (headAt r (serviceQueue (readyAt r) seen .0)) seen
+guestMoveAt n r seen = guestStaged n (serviceAt r) (readyAt r) (wordsAt r) (headFor (serviceAt r .stage) (headAt r (serviceQueue (readyAt r) seen .0))) seen
 
 unfoldable pub guestMoveBytes : ℕ → List ℕ → GuestMove → Wrote
 guestMoveBytes n r m = wrote (serviceNextAt n (m .call) (m .answer) (m .count)) (putGuestMove r m)

@@ -3,9 +3,10 @@ ghost use mathlib.Core.Path.{_≡_};
 ghost use Prim.Native.Nat.{_≤_};
 ghost use lib.ListN.{length};
 ghost use Rattle.word.specs.Word.{linkBits};
-ghost use Rattle.evtchn_fifo.specs.GuestRecord.{guestSize};
+ghost use Rattle.evtchn_fifo.specs.GuestRecord.{guestSize, headAt};
+ghost use Rattle.calls.specs.Guest.{serviceQueue};
 ghost use Rattle.evtchn_fifo.specs.Encoded.{wrote, freshened};
-ghost use Rattle.evtchn_fifo.specs.Guest.{serviceNextAt, serviceBytes, guestMoveBytes, serviceReplyBytes, serviceDueBytes, maskBytes, tellBytes, freshGuestBytes};
+ghost use Rattle.evtchn_fifo.specs.Guest.{serviceNextAt, headFor, serviceBytes, guestMoveBytes, serviceReplyBytes, serviceDueBytes, maskBytes, tellBytes, freshGuestBytes};
 use crate::encoded;
 use crate::encoded::EncodedNext;
 use crate::guest_record;
@@ -15,6 +16,7 @@ use calls::guest::GuestMove;
 use calls::records;
 use calls::types::Answer;
 use calls::types::GuestCall;
+use calls::types::GuestStage;
 use calls::types::Next;
 use word::Port;
 
@@ -78,6 +80,24 @@ fn guest_moved(guest: &mut [u8], step: GuestMove) -> EncodedNext
     service_next_at(call, answer, step.count)
 }
 
+// The head of the queue that G0's reply takes. The other stages look at none, and the queue is not sought.
+fn head_for(guest: &[u8], stage: GuestStage, ready: u32, seen: u32) -> u32
+    requires { ⌜ guestSize ≤ length (now guest) ⌝ }
+    ensures { λ r. ⌜ r ≡ headFor stage (headAt (now (guest .entry)) (serviceQueue ready seen .0)) ⌝ }
+{
+    match stage {
+        GuestStage::G0 => {
+            let queue = calls::guest::service_queue(ready, seen);
+            numbers::value_at(guest, layout::HEADS, queue)
+        }
+        GuestStage::None => 0,
+        GuestStage::G1 => 0,
+        GuestStage::G2 => 0,
+        GuestStage::G3 => 0,
+        GuestStage::G4 => 0,
+    }
+}
+
 // The reply to the access that was named last, with the word seen.
 #[no_mangle]
 pub extern "C" fn evtchn_fifo_service_reply(guest: &mut [u8], seen: u32) -> EncodedNext
@@ -95,8 +115,7 @@ pub extern "C" fn evtchn_fifo_service_reply(guest: &mut [u8], seen: u32) -> Enco
     }
     let ready = numbers::u32_at(guest, layout::READY);
     let words = numbers::u32_at(guest, layout::WORDS);
-    let queue = calls::guest::service_queue(ready, seen);
-    let head = numbers::value_at(guest, layout::HEADS, queue);
+    let head = head_for(guest, stage, ready, seen);
     let step = calls::guest::guest_staged(call, ready, words, head, seen);
     guest_moved(guest, step)
 }

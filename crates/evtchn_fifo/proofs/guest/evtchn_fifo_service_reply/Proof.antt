@@ -35,11 +35,8 @@ u32-at-requires c κs = omega (arith, ltb-true, ltb-false)
 u32-at-requires-2 : tie.Need-u32-at-requires-2
 u32-at-requires-2 c κs = omega (arith, ltb-true, ltb-false)
 
-service-queue-requires : tie.Need-service-queue-requires
-service-queue-requires c κs = search needs
-
-value-at-requires : tie.Need-value-at-requires
-value-at-requires c κs = omega (arith, ltb-true, ltb-false)
+head-for-requires : tie.Need-head-for-requires
+head-for-requires c κs = omega (arith, ltb-true, ltb-false)
 
 guest-staged-requires : tie.Need-guest-staged-requires
 guest-staged-requires c κs = search needs
@@ -52,7 +49,7 @@ same-length-2 c = search needs
 
 returns-3 : tie.Need-returns-3
 unfolding serviceReplyBytes
-returns-3 c = simp (← (c .before .before .guest-moved .ensures), ← (c .before .before .before .before .guest-staged .ensures), ← (c .before .before .before .before .before .value-at .ensures), ← (c .before .before .before .before .before .before .before .service-queue .ensures), ← (c .before .before .before .before .before .before .before .before .u32-at2 .ensures), ← (c .before .before .before .before .before .before .before .before .before .before .u32-at .ensures), c .before .before .before .before .before .before .before .before .before .before .before .before .if2 .left, ← (c .before .before .before .before .before .before .before .before .before .before .before .before .before .is-serving .ensures), ← (c .before .before .before .before .before .before .before .before .before .before .before .before .before .before .service-at .ensures), c .before .before .before .before .before .before .before .before .before .before .before .before .before .before .before .before .if1 .left)
+returns-3 c = simp (← (c .before .before .guest-moved .ensures), ← (c .before .before .before .before .guest-staged .ensures), ← (c .before .before .before .before .before .head-for .ensures), ← (c .before .before .before .before .before .before .before .u32-at2 .ensures), ← (c .before .before .before .before .before .before .before .before .before .u32-at .ensures), c .before .before .before .before .before .before .before .before .before .before .before .if2 .left, ← (c .before .before .before .before .before .before .before .before .before .before .before .before .is-serving .ensures), ← (c .before .before .before .before .before .before .before .before .before .before .before .before .before .service-at .ensures), c .before .before .before .before .before .before .before .before .before .before .before .before .before .before .before .if1 .left)
 
 pub evtchn-fifo-service-reply-spec : {M : Type 1} → statement M
 evtchn-fifo-service-reply-spec =
@@ -67,8 +64,7 @@ evtchn-fifo-service-reply-spec =
     returns-2
     u32-at-requires
     u32-at-requires-2
-    service-queue-requires
-    value-at-requires
+    head-for-requires
     guest-staged-requires
     guest-moved-requires
     same-length-2
