@@ -20,8 +20,9 @@
  * is refused (15). A guest's record belongs to its VCPU. evtchn_fifo_mask needs no lock.
  * Buffers of one call must not overlap. They may have any alignment, and may be NULL where their length is 0.
  *
- * Any bytes of the right length are a record: no call refuses one for its contents, and nothing traps. A refusal leaves every
- * byte of record and ledger as it was, but for 7, which ends the bind under way, and 18, which ends the service.
+ * Any bytes of the right length are a record: no contents make it invalid, and nothing traps. A refusal leaves every byte of
+ * record and ledger as it was, but for 7, which ends the bind under way, and 18, which ends the service and leaves the head and
+ * the local ready bit of its queue 0 (the other bits that its swap of READY took stay).
  *
  * After EVTCHN_FIFO_NO_ENTRY (14) at a reply the call is still under way and its access has been made: lend a longer ledger and
  * hand back the same word. Never perform the access again: it would see its own LINKED or READY bit, and the event or its
@@ -119,7 +120,7 @@ enum evtchn_fifo_answer {
     EVTCHN_FIFO_HANDED_OVER = 19,     /* -       (guest) the port in index is handed over */
     EVTCHN_FIFO_NOTHING_READY = 20,   /* -       (guest) idle */
     EVTCHN_FIFO_TAKEN = 21,           /* -       (guest) the port in index was taken, and is not handed over */
-    EVTCHN_FIFO_TOO_SHORT = 64        /* -       a buffer is too short; nothing was read or changed */
+    EVTCHN_FIFO_TOO_SHORT = 64        /* -       a record is too short; nothing was read or changed */
 };
 
 /* An access's code is 0x100 + kind * 16 + place. */
@@ -145,14 +146,15 @@ static inline unsigned evtchn_fifo_place_of(evtchn_fifo_next next) { return next
 /* ---- the library's functions, on bytes ---- */
 
 /*
- * A buffer is a pointer and a length in bytes; what is beyond a record's size stays. Port, priority, VCPU, offset and numbers of
- * words above 2^32 - 1 count as 2^32 - 1, which the test at its place in the order refuses. Each line names the refusals in the
- * order in which they are tested.
+ * A buffer is a pointer and a length in bytes; what is beyond a record's size stays. A record that is too short gives 64 before
+ * any other test; a short ledger gives 14. A port, priority, VCPU or offset above 2^32 - 1 counts as 2^32 - 1, which the test at
+ * its place in the order refuses; so does a number of words, which nothing refuses. Each line names the refusals in the order in
+ * which they are tested.
  */
 
 uint32_t evtchn_fifo_layout(void);
 
-/* Fresh records and entries, whatever the bytes held: 0, or 64. */
+/* Fresh records and entries, whatever the bytes held: 0, or 64 where a record is too short. */
 uint32_t evtchn_fifo_fresh_domain(uint8_t *domain, size_t domain_length);
 uint32_t evtchn_fifo_fresh_ledger(uint8_t *ledger, size_t ledger_length);
 uint32_t evtchn_fifo_fresh_guest(uint8_t *guest, size_t guest_length);
@@ -171,7 +173,7 @@ evtchn_fifo_next evtchn_fifo_set_priority(uint8_t *domain, size_t domain_length,
 evtchn_fifo_next evtchn_fifo_raise(uint8_t *domain, size_t domain_length, uint8_t *ledger, size_t ledger_length, uint64_t port);
 /* 15, 10, 3, 14, 4, 6. */
 evtchn_fifo_next evtchn_fifo_unmask(uint8_t *domain, size_t domain_length, uint8_t *ledger, size_t ledger_length, uint64_t port);
-/* The reply to the access that was named last: 16, 14. */
+/* The reply to the access that was named last: 16, 14; 7 where that was a bind's. */
 evtchn_fifo_next evtchn_fifo_reply(uint8_t *domain, size_t domain_length, uint8_t *ledger, size_t ledger_length, uint32_t seen);
 /* The access that the call under way waits for, once more: 16. */
 evtchn_fifo_next evtchn_fifo_due(const uint8_t *domain, size_t domain_length);
