@@ -2,11 +2,11 @@
 # make test                      the gate: layout, formatting, every proof from nothing, must-fail edits, programs, host tests
 # make lib                       both archives for C, in target/lib: for user space, and for a hypervisor
 # make install PREFIX=DIR        archives, headers and a pkg-config file below DIR (default /usr/local); make uninstall PREFIX=DIR
-# make benchmark                 instructions of a raise against hand-written C, by callgrind; not part of the gate
+# make bench                     what six calls cost, as ratios to hand-written C; not part of the gate
 # make fuzz MINUTES=n            the differential tests for n minutes, from fresh seeds
 # make mutants                   every edit under mutants/, which the prover must refuse; not part of the gate
 # make setup                     installs what the tests need beside the Rattle toolchain
-.PHONY: demo test lib install uninstall benchmark fuzz mutants setup
+.PHONY: demo test lib install uninstall bench fuzz mutants setup
 PREFIX = /usr/local
 MINUTES = 10
 SECONDS = 5
@@ -35,8 +35,8 @@ install:
 uninstall:
 	@tools/install -u "$(PREFIX)"
 
-benchmark:
-	@tools/benchmark
+bench:
+	@tools/bench
 
 fuzz: $(archive)
 	@MINUTES=$(MINUTES) host/rust/run-tests
