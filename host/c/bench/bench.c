@@ -45,9 +45,20 @@ static evtchn_fifo_next to_answer(evtchn_fifo_next next)
     return next;
 }
 
-static evtchn_fifo_next bind(uint32_t p) { return to_answer(evtchn_fifo_domain_bind(&state.domain, state.ledger, shared.words, p)); }
-static evtchn_fifo_next raise(uint32_t p) { return to_answer(evtchn_fifo_domain_raise(&state.domain, state.ledger, shared.words, p)); }
-static evtchn_fifo_next unmask(uint32_t p) { return to_answer(evtchn_fifo_domain_unmask(&state.domain, state.ledger, shared.words, p)); }
+static evtchn_fifo_next bind(uint32_t p)
+{
+    return to_answer(evtchn_fifo_domain_bind(&state.domain, state.ledger, shared.words, p));
+}
+
+static evtchn_fifo_next raise(uint32_t p)
+{
+    return to_answer(evtchn_fifo_domain_raise(&state.domain, state.ledger, shared.words, p));
+}
+
+static evtchn_fifo_next unmask(uint32_t p)
+{
+    return to_answer(evtchn_fifo_domain_unmask(&state.domain, state.ledger, shared.words, p));
+}
 
 static evtchn_fifo_next service(uint32_t p)
 {
@@ -171,7 +182,8 @@ static int is_right(const struct call *call, evtchn_fifo_next next)
 static int is_stale(size_t at)
 {
     size_t domain = offsetof(struct state, domain), guest = offsetof(struct state, guest);
-    return (at >= domain + 72 && at < domain + EVTCHN_FIFO_DOMAIN_SIZE) || (at >= guest + 72 && at < guest + EVTCHN_FIFO_GUEST_SIZE);
+    return (at >= domain + 72 && at < domain + EVTCHN_FIFO_DOMAIN_SIZE) ||
+           (at >= guest + 72 && at < guest + EVTCHN_FIFO_GUEST_SIZE);
 }
 
 /* The call for the first time: what it must leave, and which words it changes. */

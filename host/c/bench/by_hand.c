@@ -256,7 +256,8 @@ static inline evtchn_fifo_next r6_reply(domain_record *domain, uint32_t seen)
     return end(domain, seen & ready_bit(domain->queue) ? EVTCHN_FIFO_DONE : EVTCHN_FIFO_UPCALL_WANTED);
 }
 
-evtchn_fifo_next evtchn_fifo_reply(uint8_t *domain_bytes, size_t domain_length, uint8_t *ledger, size_t ledger_length, uint32_t seen)
+evtchn_fifo_next evtchn_fifo_reply(uint8_t *domain_bytes, size_t domain_length, uint8_t *ledger, size_t ledger_length,
+                                   uint32_t seen)
 {
     domain_record *domain = (domain_record *)domain_bytes;
     ledger_entry *entry;
@@ -321,7 +322,8 @@ static inline uint32_t refusal(const domain_record *domain, size_t domain_length
     return 0;
 }
 
-evtchn_fifo_next evtchn_fifo_bind(uint8_t *domain_bytes, size_t domain_length, uint8_t *ledger, size_t ledger_length, uint64_t port)
+evtchn_fifo_next evtchn_fifo_bind(uint8_t *domain_bytes, size_t domain_length, uint8_t *ledger, size_t ledger_length,
+                                  uint64_t port)
 {
     domain_record *domain = (domain_record *)domain_bytes;
     uint32_t refused = refusal(domain, domain_length, ledger_length, port);
@@ -337,7 +339,8 @@ evtchn_fifo_next evtchn_fifo_bind(uint8_t *domain_bytes, size_t domain_length, u
     return at_once(EVTCHN_FIFO_DONE);
 }
 
-evtchn_fifo_next evtchn_fifo_close(uint8_t *domain_bytes, size_t domain_length, uint8_t *ledger, size_t ledger_length, uint64_t port)
+evtchn_fifo_next evtchn_fifo_close(uint8_t *domain_bytes, size_t domain_length, uint8_t *ledger, size_t ledger_length,
+                                   uint64_t port)
 {
     domain_record *domain = (domain_record *)domain_bytes;
     uint32_t refused = refusal(domain, domain_length, ledger_length, port);
@@ -392,8 +395,8 @@ evtchn_fifo_next evtchn_fifo_unmask(uint8_t *domain, size_t domain_length, uint8
     return begin_link(UNMASK, domain, domain_length, ledger, ledger_length, port);
 }
 
-evtchn_fifo_next evtchn_fifo_init_control(uint8_t *domain_bytes, size_t domain_length, uint64_t vcpu, uint64_t frame, uint64_t frames,
-                                          uint64_t offset)
+evtchn_fifo_next evtchn_fifo_init_control(uint8_t *domain_bytes, size_t domain_length, uint64_t vcpu, uint64_t frame,
+                                          uint64_t frames, uint64_t offset)
 {
     domain_record *domain = (domain_record *)domain_bytes;
     if (domain_length < EVTCHN_FIFO_DOMAIN_SIZE)

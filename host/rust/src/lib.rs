@@ -9,6 +9,7 @@
 //!
 //! `./run-tests` runs everything and ends with a line `N passed, M failed`; `MINUTES=n ./run-tests`
 //! runs the differential tests for n minutes from fresh seeds, `SEED=n` from a given one.
+//! Program `model_bench` measures the model for `make bench`.
 //! `EVTCHN_FIFO_ARCHIVE` names another archive to link than the repository's,
 //! `EVTCHN_FIFO_CASES` another stored output of crate `cases`.
 

@@ -66,28 +66,28 @@ impl Host {
     /// bind, from its start to its answer.
     pub fn bind(&mut self, port: u32) -> Next {
         let next = counted::bind(self, port);
-        self.to_answer(next, counted::reply)
+        self.finish(next, counted::reply)
     }
 
     /// raise, from its start to its answer.
     pub fn raise(&mut self, port: u32) -> Next {
         let next = counted::raise(self, port);
-        self.to_answer(next, counted::reply)
+        self.finish(next, counted::reply)
     }
 
     /// unmask, from its start to its answer.
     pub fn unmask(&mut self, port: u32) -> Next {
         let next = counted::unmask(self, port);
-        self.to_answer(next, counted::reply)
+        self.finish(next, counted::reply)
     }
 
     /// service, from its start to its answer.
     pub fn service(&mut self) -> Next {
         let next = counted::service(self);
-        self.to_answer(next, counted::service_reply)
+        self.finish(next, counted::service_reply)
     }
 
-    fn to_answer(&mut self, mut next: Next, reply: impl Fn(&mut Host, u32) -> Next) -> Next {
+    fn finish(&mut self, mut next: Next, reply: impl Fn(&mut Host, u32) -> Next) -> Next {
         while let Next::Access(access) = next {
             let Some(seen) = self.shared.perform(access) else {
                 break;
