@@ -22,6 +22,7 @@ static struct state {
     evtchn_fifo_guest guest;
     uint32_t control[EVTCHN_FIFO_CONTROL_WORDS];
     uint16_t ledger[EVTCHN_FIFO_PORTS];
+    uint32_t apart[256]; /* addresses that differ by a multiple of 4,096 only hinder each other in the processor */
     uint32_t words[EVTCHN_FIFO_PORTS];
 } state, before;
 
