@@ -2,10 +2,10 @@
 # make test                      the gate: layout, formatting, every proof from nothing, must-fail edits, programs, host tests
 # make lib                       both archives for C, in target/lib: for user space, and for a hypervisor
 # make install PREFIX=DIR        archives, headers and a pkg-config file below DIR (default /usr/local); make uninstall PREFIX=DIR
-# make bench                     what six calls cost, as ratios to hand-written C; not part of the gate
+# make bench                     what six calls cost against hand-written C and the Rust model, as ratios; not part of the gate
 # make fuzz MINUTES=n            the differential tests for n minutes, from fresh seeds
 # make mutants                   every edit under mutants/, which the prover must refuse; not part of the gate
-# make setup                     installs what the tests need beside the Rattle toolchain
+# make setup                     installs what the tests and the benchmark need beside the Rattle toolchain
 .PHONY: demo test lib install uninstall bench fuzz mutants setup
 PREFIX = /usr/local
 MINUTES = 10
@@ -35,7 +35,7 @@ install:
 uninstall:
 	@tools/install -u "$(PREFIX)"
 
-bench:
+bench: $(archive)
 	@tools/bench
 
 fuzz: $(archive)
