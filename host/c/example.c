@@ -42,7 +42,8 @@ int main(void)
     run(evtchn_fifo_domain_bind(&domain, ledger, 4096, 5));
     next = run(evtchn_fifo_domain_raise(&domain, ledger, 4096, 5));
     printf("raise: answer %u after %u accesses\n", (unsigned)next.code, (unsigned)next.value);
-    next = serve();
+    if (next.code == EVTCHN_FIFO_UPCALL_WANTED)
+        next = serve();
     printf("service: answer %u, port %u\n", (unsigned)next.code, (unsigned)next.index);
     return 0;
 }

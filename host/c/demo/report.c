@@ -1,5 +1,6 @@
 /* Sums over domains and ports, the table, and the claims. The account of a port: the times that PENDING went from clear to set are
- * its hand-overs, and the closes that found it set, and one if it is set now. */
+ * its hand-overs, and the closes that found it set, and one if it is set now. An event that is left pending on a port that is not
+ * masked is lost too: no guest will be woken for it. */
 #include <inttypes.h>
 #include <stdio.h>
 
@@ -25,7 +26,8 @@ static uint32_t word_of(const domain *d, uint32_t port)
 static void add_port(group *g, const domain *d, uint32_t port)
 {
     const port_account *account = &d->accounts[port];
-    uint64_t due = account->events - account->closed - ((word_of(d, port) & PENDING) != 0);
+    bool held_back = (word_of(d, port) & (PENDING | MASKED)) == (PENDING | MASKED);
+    uint64_t due = account->events - account->closed - held_back;
     g->raises += account->events + account->coalesced;
     g->hand_overs += account->handed_over;
     g->coalesced += account->coalesced;
