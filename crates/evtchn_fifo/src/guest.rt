@@ -76,8 +76,9 @@ fn guest_moved(guest: &mut [u8], step: GuestMove) -> EncodedNext
 {
     let call = step.call;
     let answer = step.answer;
+    let next = service_next_at(call, answer, step.count);
     guest_record::put_guest_move(guest, step);
-    service_next_at(call, answer, step.count)
+    next
 }
 
 // The head of the queue that G0's reply takes. The other stages look at none, and the queue is not sought.
