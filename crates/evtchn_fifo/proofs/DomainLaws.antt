@@ -1,12 +1,12 @@
 -- A domain's record in bytes: what a call writes, decoded.
 -- Assumes nothing.
-use Prim.Native.Nat.{ℕ}
+use Prim.Native.Nat.{ℕ, _+_, _≤_}
 use mathlib.Core.Path.{_≡_, refl, sym, ap, _∙_}
 use mathlib.Core.Bool.{Bool, true, false, not}
 use mathlib.Core.List.{List}
-use lib.ListN.{length, set}
+use lib.ListN.{length, getD, set}
 use lib.Dec.{leb, ltb, eqb}
-use borrow.Author.Tests.{leb-true}
+use borrow.Author.Tests.{leb-true, leb-false, not-true, not-false}
 use native.Mathlib.Omega.{arith}
 use Rattle.word.specs.Entry.{priority, lastQueue}
 use Rattle.calls.specs.declared.types.Owner.{Owner}
@@ -18,12 +18,12 @@ use Rattle.calls.specs.declared.types.Domain.{Domain}
 use Rattle.calls.specs.declared.types.Answer.{Answer}
 use Rattle.calls.specs.declared.hypervisor.stage.Move.{Move}
 use Rattle.calls.specs.Records.{isFree, withCall}
-use Rattle.calls.specs.Hypervisor.{viewOf, moved, nextOf}
+use Rattle.calls.specs.Hypervisor.{viewOf, moved, nextOf, dueAt, due}
 use Rattle.evtchn_fifo.specs.Numbers.{numberAt, putNumber, numbersAt, putValue, putValues}
 use Rattle.evtchn_fifo.specs.Encoded.{encodedNext}
-use Rattle.evtchn_fifo.specs.DomainRecord.{ownerCode, ownerOf, stageCode, stageOf, givenCode, givenAt, ownerAt, callAt, viewAt, domainAt, putCall, putMove, putDomain}
-use Rattle.evtchn_fifo.specs.Hypervisor.{nextAt}
-use Rattle.evtchn_fifo.proofs.NumberLaws.{length-put, read-back, kept-before, kept-after, numbers-kept, value-is, values-set, value-before, value-after, length-puts, kept-below, sixteen-back, numbers-after}
+use Rattle.evtchn_fifo.specs.DomainRecord.{domainSize, tailAt, putTail, ownerCode, ownerOf, stageCode, stageOf, givenCode, givenAt, ownerAt, callAt, viewAt, domainAt, putCall, putMove, putDomain}
+use Rattle.evtchn_fifo.specs.Hypervisor.{nextAt, tailFor}
+use Rattle.evtchn_fifo.proofs.NumberLaws.{value-set, value-other, value-same, value-beyond, length-put, read-back, kept-before, kept-after, numbers-kept, value-is, values-set, value-before, value-after, length-puts, kept-below, sixteen-back, numbers-after}
 
 -- ---- codes
 
@@ -184,3 +184,33 @@ next-move n r m h =
 pub next-kept : (n : ℕ) (r : List ℕ) (c : Call) (a : Answer) (k : ℕ) → nextAt n (putCall r c) c a k ≡ nextAt n r c a k
 unfolding nextAt
 next-kept n r c a k = rw (value-is 8 (putCall r c) (c .queue .0), tails-kept r c, ← (value-is 8 r (c .queue .0)))
+
+-- ---- the tails once one is written
+
+pub tail-other : (r : List ℕ) (q v p : ℕ) → domainSize ≤ length r → not (eqb q p) ≡ true → tailAt (putTail r q v) p ≡ tailAt r p
+tail-other r q v p h e = value-other 8 r q v p (omega arith) (not-true (eqb q p) e)
+
+pub tail-beyond : (r : List ℕ) (p : ℕ) → leb 16 p ≡ true → tailAt r p ≡ 0
+tail-beyond r p e = value-beyond 8 r p (leb-true 16 p e)
+
+pub tail-same : (r : List ℕ) (q v p : ℕ) → domainSize ≤ length r → not (eqb q p) ≡ false → leb 16 p ≡ false → tailAt (putTail r q v) p ≡ v
+tail-same r q v p h e l = value-same 8 r q v p (omega arith) (not-false (eqb q p) e) (leb-false 16 p l)
+
+-- a call's words hold none
+pub tail-kept : (r : List ℕ) (c : Call) (q v p : ℕ) → domainSize ≤ length r → tailAt (putTail (putCall r c) q v) p ≡ tailAt (putTail r q v) p
+tail-kept r c q v p h =
+    let l : 8 + 64 ≤ length r = omega arith in
+    value-set 8 (putCall r c) q v p (rw (length-call r c) l) ∙ ap (λ (t : List ℕ). getD (set t q v) p 0) (tails-kept r c) ∙ sym (value-set 8 r q v p l)
+
+-- an access looks at a tail only at R3 and R4
+due-at : (n : ℕ) (s : Stage) (c : Call) (t : ℕ) → dueAt n s c (tailFor s t) ≡ dueAt n s c t
+due-at n First c t = refl
+due-at n R2 c t = refl
+due-at n R3 c t = refl
+due-at n R4 c t = refl
+due-at n R5 c t = refl
+due-at n R6 c t = refl
+
+pub due-tail : (n : ℕ) (c : Call) (t : ℕ) → due n c (tailFor (c .stage) t) ≡ due n c t
+unfolding due
+due-tail n c t = due-at n (c .stage) c t

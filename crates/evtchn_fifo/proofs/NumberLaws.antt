@@ -7,8 +7,8 @@ use mathlib.Core.List.{List, [], _∷_}
 use mathlib.Core.Logic.{_⊎_, inl, inr, ⊎-elim}
 use lib.ListN.{length, getD, set, length-set, List·getD-eq-default}
 use lib.Seq.{getD-set-same, getD-set-other, set-out}
-use lib.Dec.{leb, ltb}
-use borrow.Author.Tests.{leb-true, ltb-true, ltb-false}
+use lib.Dec.{leb, ltb, eqb}
+use borrow.Author.Tests.{leb-true, ltb-true, ltb-false, le-ltb, eqb-true, eqb-false}
 use native.Mathlib.Omega.{arith}
 use native.Mathlib.Nat.{not-suc-le-zero}
 use Rattle.evtchn_fifo.specs.Numbers.{numberAt, putNumber, numbersAt, putNumbers, valueAt, putValue}
@@ -118,6 +118,22 @@ values-by base s q v false e h = rw (e, set-out (numbersAt 3 s base 16) q v (rw 
 
 pub values-set : (base : ℕ) (s : List ℕ) (q v : ℕ) → base + 64 ≤ length s → numbersAt 3 (putValue base s q v) base 16 ≡ set (numbersAt 3 s base 16) q v
 values-set base s q v h = values-by base s q v (ltb q 16) refl h
+
+-- the sixteen, after one of them was written
+pub value-set : (base : ℕ) (s : List ℕ) (q v p : ℕ) → base + 64 ≤ length s → valueAt base (putValue base s q v) p ≡ getD (set (numbersAt 3 s base 16) q v) p 0
+value-set base s q v p h = value-is base (putValue base s q v) p ∙ ap (λ (l : List ℕ). getD l p 0) (values-set base s q v h)
+
+pub value-other : (base : ℕ) (s : List ℕ) (q v p : ℕ) → base + 64 ≤ length s → eqb q p ≡ false → valueAt base (putValue base s q v) p ≡ valueAt base s p
+value-other base s q v p h e =
+    value-set base s q v p h ∙ getD-set-other (numbersAt 3 s base 16) q p v 0 (λ x. eqb-false q p e (sym x)) ∙ sym (value-is base s p)
+
+pub value-same : (base : ℕ) (s : List ℕ) (q v p : ℕ) → base + 64 ≤ length s → eqb q p ≡ true → p < 16 → valueAt base (putValue base s q v) p ≡ v
+value-same base s q v p h e l =
+    rw (eqb-true q p e) (value-set base s p v p h ∙ getD-set-same (numbersAt 3 s base 16) p v 0 (rw (numbers-length 16 3 s base) l))
+
+pub value-beyond : (base : ℕ) (s : List ℕ) (p : ℕ) → 16 ≤ p → valueAt base s p ≡ 0
+unfolding valueAt
+value-beyond base s p l = rw (le-ltb p 16 l)
 
 -- what stands elsewhere
 apart-by : (base : ℕ) (s : List ℕ) (q v at : ℕ) (b : Bool) → ltb q 16 ≡ b → (at + 4 ≤ base) ⊎ (base + 64 ≤ at) → numberAt 3 (putValue base s q v) at ≡ numberAt 3 s at

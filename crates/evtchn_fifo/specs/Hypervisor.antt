@@ -13,6 +13,8 @@ use Rattle.calls.specs.declared.types.Answer.{Answer}
 use Rattle.calls.specs.declared.types.Answer.the-variants.{Done, LinkBits, NoEntry, NoCall}
 use Rattle.calls.specs.declared.types.Owner.{Owner}
 use Rattle.calls.specs.declared.types.Owner.the-variants as owner
+use Rattle.calls.specs.declared.types.Stage.{Stage}
+use Rattle.calls.specs.declared.types.Stage.the-variants.{First, R2, R3, R4, R5, R6}
 use Rattle.calls.specs.declared.types.Call.{Call}
 use Rattle.calls.specs.declared.records.Lookup.{Lookup}
 use Rattle.calls.specs.declared.records.Lookup.the-variants.{Found, Missing}
@@ -36,6 +38,15 @@ unfoldable pub nextAt : ℕ → List ℕ → Call → Answer → ℕ → Encoded
 nextAt n r c a count =
     cond (isFree (c .owner)) (encodedAnswer a count)
     (encodedAccess (due n c (tailAt r (c .queue .0))))
+
+-- only the accesses of R3 and R4 are on a tail t
+abbrev pub tailFor : Stage → ℕ → ℕ
+tailFor First t = 0
+tailFor R2 t = 0
+tailFor R3 t = t
+tailFor R4 t = t
+tailFor R5 t = 0
+tailFor R6 t = 0
 
 -- ---- init_control and expand_array
 

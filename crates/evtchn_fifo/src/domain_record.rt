@@ -3,7 +3,7 @@ ghost use mathlib.Core.Path.{_≡_};
 ghost use Prim.Native.Nat.{_≤_};
 ghost use lib.ListN.{length};
 ghost use Rattle.calls.specs.Records.{isFree};
-ghost use Rattle.evtchn_fifo.specs.DomainRecord.{domainSize, ownerCode, ownerOf, stageCode, stageOf, givenCode, givenAt, ownerAt, callAt, viewAt, putCall, putMove, putDomain};
+ghost use Rattle.evtchn_fifo.specs.DomainRecord.{domainSize, ownerCode, ownerOf, stageCode, stageOf, givenCode, givenAt, ownerAt, callAt, tailAt, viewAt, putCall, putTail, putMove, putDomain};
 use crate::layout;
 use crate::numbers;
 use calls::hypervisor::stage::Move;
@@ -174,6 +174,22 @@ pub(crate) fn put_call(domain: &mut [u8], call: Call)
     numbers::put_u32(domain, layout::WORD, call.word);
     numbers::put_u32(domain, layout::TRIES, call.tries);
     numbers::put_u32(domain, layout::COUNT, call.count);
+}
+
+// The tail of a queue once that of the changed one is written.
+pub(crate) fn tail_after(domain: &[u8], changed: Queue, tail: u32, queue: Queue) -> u32
+    requires { ⌜ domainSize ≤ length (now domain) ⌝ }
+    ensures { λ r. ⌜ r ≡ tailAt (putTail (now (domain .entry)) (changed .0) tail) (queue .0) ⌝ }
+{
+    let apart = changed.0 != queue.0;
+    if apart {
+        return numbers::value_at(domain, layout::TAILS, queue);
+    }
+    let none = 16 <= queue.0;
+    if none {
+        return 0;
+    }
+    tail
 }
 
 // All that a reply changes.

@@ -4,9 +4,9 @@ ghost use Prim.Native.Nat.{_≤_};
 ghost use lib.ListN.{length};
 ghost use Rattle.word.specs.Word.{linkBits, portAt};
 ghost use Rattle.evtchn_fifo.specs.Numbers.{narrow};
-ghost use Rattle.evtchn_fifo.specs.DomainRecord.{domainSize};
+ghost use Rattle.evtchn_fifo.specs.DomainRecord.{domainSize, tailAt, putTail, putMove};
 ghost use Rattle.evtchn_fifo.specs.Encoded.{wrote, carried, freshened};
-ghost use Rattle.evtchn_fifo.specs.Hypervisor.{nextAt, initBytes, expandBytes, startsOf, startBytes, onPort, bindBytes, closeBytes, setPriorityBytes, raiseBytes, unmaskBytes, moveBytes, replyBytes, dueBytes, freshDomainBytes};
+ghost use Rattle.evtchn_fifo.specs.Hypervisor.{nextAt, tailFor, initBytes, expandBytes, startsOf, startBytes, onPort, bindBytes, closeBytes, setPriorityBytes, raiseBytes, unmaskBytes, moveBytes, replyBytes, dueBytes, freshDomainBytes};
 use crate::domain_record;
 use crate::encoded;
 use crate::encoded::EncodedNext;
@@ -23,8 +23,10 @@ use calls::records::Lookup;
 use calls::types::Answer;
 use calls::types::Call;
 use calls::types::Owner;
+use calls::types::Stage;
 use word::Port;
 use word::Priority;
+use word::Queue;
 
 // The access that a record's call waits for, or the answer with its count where there is none.
 fn next_at(domain: &[u8], call: Call, answer: Answer, count: u32) -> EncodedNext
@@ -220,15 +222,49 @@ pub extern "C" fn evtchn_fifo_unmask(domain: &mut [u8], ledger: &mut [u8], port:
     port_call(domain, ledger, port, PortCall::Unmask)
 }
 
-// What a reply changes in the record is written.
+// The tail that the access of a stage is on, once the reply's changes are written; only R3 and R4 look at one.
+fn tail_for(domain: &[u8], stage: Stage, queue: Queue, changed: Queue, tail: u32) -> u32
+    requires { ⌜ domainSize ≤ length (now domain) ⌝ }
+    ensures { λ r. ⌜ r ≡ tailFor stage (tailAt (putTail (now (domain .entry)) (changed .0) tail) (queue .0)) ⌝ }
+{
+    match stage {
+        Stage::R3 => domain_record::tail_after(domain, changed, tail, queue),
+        Stage::R4 => domain_record::tail_after(domain, changed, tail, queue),
+        Stage::First => 0,
+        Stage::R2 => 0,
+        Stage::R5 => 0,
+        Stage::R6 => 0,
+    }
+}
+
+// What the record will wait for once the reply's changes are written.
+fn next_after(domain: &[u8], step: Move) -> EncodedNext
+    requires { ⌜ domainSize ≤ length (now domain) ⌝ }
+    ensures { λ r. ⌜ r ≡ nextAt linkBits (putMove (now (domain .entry)) step) (step .call) (step .answer) (step .count) ⌝ }
+{
+    let call = step.call;
+    let answer = step.answer;
+    let owner = call.owner;
+    let free = records::is_free(owner);
+    if free {
+        return encoded::encoded_answer(answer, step.count);
+    }
+    let queue = call.queue;
+    let stage = call.stage;
+    let changed = step.queue;
+    let tail = tail_for(domain, stage, queue, changed, step.tail);
+    let access = stage::due(call, tail);
+    encoded::encoded_access(access)
+}
+
+// What a reply changes in the record is written. The next access is named first: then the compiler goes by the stage once.
 fn moved(domain: &mut [u8], step: Move) -> EncodedNext
     requires { ⌜ domainSize ≤ length (now domain) ⌝ }
     ensures { λ r. ⌜ wrote r (now (domain .exit)) ≡ moveBytes linkBits (now (domain .entry)) step ⌝ }
 {
-    let call = step.call;
-    let answer = step.answer;
+    let next = next_after(domain, step);
     domain_record::put_move(domain, step);
-    next_at(domain, call, answer, step.count)
+    next
 }
 
 // The reply to the access that was named last, with the word seen.

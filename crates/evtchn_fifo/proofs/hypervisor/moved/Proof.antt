@@ -4,18 +4,18 @@ use borrow.Author.Needs.{needs}
 use Rattle.evtchn_fifo.proofs.hypervisor.moved.Statement.{statement}
 use Rattle.evtchn_fifo.proofs.hypervisor.moved.Tie as tie
 
+next-after-requires : tie.Need-next-after-requires
+next-after-requires c κs = search needs
+
 put-move-requires : tie.Need-put-move-requires
 put-move-requires c κs = search needs
-
-next-at-requires : tie.Need-next-at-requires
-next-at-requires c κs = search needs
 
 same-length : tie.Need-same-length
 same-length c = search needs
 
 returns : tie.Need-returns
 unfolding moveBytes
-returns c = simp (c .next-at .ensures, c .before .before .before .before .put-move .ensures)
+returns c = simp (c .before .before .put-move .ensures, c .before .before .before .before .next-after .ensures)
 
 pub moved-spec : {M : Type 1} → statement M
-moved-spec = tie.close (tie.spec put-move-requires next-at-requires same-length returns)
+moved-spec = tie.close (tie.spec next-after-requires put-move-requires same-length returns)
