@@ -108,12 +108,12 @@ pub extern "C" fn evtchn_fifo_service_reply(guest: &mut [u8], seen: u32) -> Enco
     if short {
         return encoded::too_short();
     }
-    let call = guest_record::service_at(guest);
-    let stage = call.stage;
-    let free = !calls::guest::is_serving(stage);
-    if free {
+    let idle = guest_record::is_idle(guest);
+    if idle {
         return encoded::encoded_answer(Answer::NoCall, 0);
     }
+    let call = guest_record::service_at(guest);
+    let stage = call.stage;
     let ready = numbers::u32_at(guest, layout::READY);
     let words = numbers::u32_at(guest, layout::WORDS);
     let head = head_for(guest, stage, ready, seen);

@@ -1,7 +1,9 @@
 // A guest's record in bytes: its fields read and written.
 ghost use mathlib.Core.Path.{_≡_};
 ghost use Prim.Native.Nat.{_≤_};
+ghost use mathlib.Core.Bool.{not};
 ghost use lib.ListN.{length};
+ghost use Rattle.calls.specs.Guest.{isServing};
 ghost use Rattle.evtchn_fifo.specs.GuestRecord.{guestSize, guestStageCode, guestStageOf, serviceAt, withoutHeads, putService, putGuestMove, putGuest};
 use crate::layout;
 use crate::numbers;
@@ -49,6 +51,19 @@ pub(crate) fn service_at(guest: &[u8]) -> GuestCall
     let queue = numbers::u32_at(guest, layout::GUEST_QUEUE);
     let count = numbers::u32_at(guest, layout::GUEST_COUNT);
     calls::records::guest_call_at(stage, Port(port), Queue(queue), count)
+}
+
+// Whether no service is under way, told by the code of its stage.
+pub(crate) fn is_idle(guest: &[u8]) -> bool
+    requires { ⌜ guestSize ≤ length (now guest) ⌝ }
+    ensures { λ r. ⌜ r ≡ not (isServing (serviceAt (now (guest .entry)) .stage)) ⌝ }
+{
+    let code = numbers::u32_at(guest, layout::GUEST_STAGE);
+    let none = code == 0;
+    if none {
+        return true;
+    }
+    6 <= code
 }
 
 // A record without heads and ready bits, which neither the start of a service nor a tell looks at.

@@ -11,13 +11,10 @@ too-short-requires c κs = search needs
 
 returns : tie.Need-returns
 unfolding serviceReplyBytes
-returns c = simp (c .before .if1 .taken, c .too-short .ensures)
+returns c = simp (← (c .too-short .ensures), c .before .if1 .taken)
 
-service-at-requires : tie.Need-service-at-requires
-service-at-requires c κs = search needs
-
-is-serving-requires : tie.Need-is-serving-requires
-is-serving-requires c κs = search needs
+is-idle-requires : tie.Need-is-idle-requires
+is-idle-requires c κs = omega (arith, ltb-true, ltb-false)
 
 encoded-answer-requires : tie.Need-encoded-answer-requires
 encoded-answer-requires c κs = search needs
@@ -27,7 +24,10 @@ same-length c = search needs
 
 returns-2 : tie.Need-returns-2
 unfolding serviceReplyBytes
-returns-2 c = simp (← (c .encoded-answer .ensures), c .before .if2 .taken, ← (c .before .before .is-serving .ensures), ← (c .before .before .before .service-at .ensures), c .before .before .before .before .before .if1 .left)
+returns-2 c = simp (← (c .encoded-answer .ensures), c .before .if2 .taken, ← (c .before .before .is-idle .ensures), c .before .before .before .before .if1 .left)
+
+service-at-requires : tie.Need-service-at-requires
+service-at-requires c κs = omega (arith, ltb-true, ltb-false)
 
 u32-at-requires : tie.Need-u32-at-requires
 u32-at-requires c κs = omega (arith, ltb-true, ltb-false)
@@ -49,7 +49,7 @@ same-length-2 c = search needs
 
 returns-3 : tie.Need-returns-3
 unfolding serviceReplyBytes
-returns-3 c = simp (← (c .before .before .guest-moved .ensures), ← (c .before .before .before .before .guest-staged .ensures), ← (c .before .before .before .before .before .head-for .ensures), ← (c .before .before .before .before .before .before .before .u32-at2 .ensures), ← (c .before .before .before .before .before .before .before .before .before .u32-at .ensures), c .before .before .before .before .before .before .before .before .before .before .before .if2 .left, ← (c .before .before .before .before .before .before .before .before .before .before .before .before .is-serving .ensures), ← (c .before .before .before .before .before .before .before .before .before .before .before .before .before .service-at .ensures), c .before .before .before .before .before .before .before .before .before .before .before .before .before .before .before .if1 .left)
+returns-3 c = simp (← (c .before .before .guest-moved .ensures), ← (c .before .before .before .before .guest-staged .ensures), ← (c .before .before .before .before .before .head-for .ensures), ← (c .before .before .before .before .before .before .before .u32-at2 .ensures), ← (c .before .before .before .before .before .before .before .before .before .u32-at .ensures), ← (c .before .before .before .before .before .before .before .before .before .before .before .service-at .ensures), c .before .before .before .before .before .before .before .before .before .before .before .before .before .if2 .left, ← (simp (← (c .before .before .before .before .before .before .before .before .before .before .before .service-at .ensures)) at (c .before .before .before .before .before .before .before .before .before .before .before .before .before .before .is-idle .ensures)), c .before .before .before .before .before .before .before .before .before .before .before .before .before .before .before .before .if1 .left)
 
 pub evtchn-fifo-service-reply-spec : {M : Type 1} → statement M
 evtchn-fifo-service-reply-spec =
@@ -57,11 +57,11 @@ evtchn-fifo-service-reply-spec =
     (tie.spec
     too-short-requires
     returns
-    service-at-requires
-    is-serving-requires
+    is-idle-requires
     encoded-answer-requires
     same-length
     returns-2
+    service-at-requires
     u32-at-requires
     u32-at-requires-2
     head-for-requires
