@@ -13,6 +13,7 @@ use Rattle.word.specs.declared.Flag.the-variants.{Pending, Masked}
 use Rattle.word.specs.Word.{has, link, queueAt}
 use Rattle.word.specs.Ready.{merged, lowest}
 use Rattle.word.proofs.ReadyLaws.{merged-lt}
+use Rattle.word.proofs.LowestLaws.{lowest-found}
 use Rattle.calls.specs.declared.types.Access.{Access}
 use Rattle.calls.specs.declared.types.Answer.{Answer}
 use Rattle.calls.specs.declared.types.Next.the-variants as next
@@ -30,7 +31,6 @@ use Rattle.calls.proofs.GuestClaims.{guest-names-due, counts-services}
 use Rattle.machine.specs.Memory.{placeOf}
 use Rattle.claims.specs.Reach.{PortInside, Inside, serviceLimit, ServicesBounded, wordsTold, WordsAreTold, MaskInside, MasksInside}
 use Rattle.claims.proofs.CallsHypervisorTurns.{is-port}
-use Rattle.claims.proofs.WordLowestLaws.{lowest-found}
 use Rattle.claims.proofs.CallsCases.{by-test, same-access}
 use Rattle.claims.proofs.SideReach.{bounded}
 
@@ -70,7 +70,7 @@ module _ (words : ℕ) (c : GuestCall) (k : ℕ) where
   unfolding replyG0
   swaps h ready head seen =
       by-test Moves (eqb (merged ready seen) 0) (λ f. tt)
-      (λ f. choose Moves (eqb head 0) (lowest-found (merged ready seen) (merged-lt ready seen) (omega (arith, eqb-false (merged ready seen) 0 f)), omega arith)
+      (λ f. choose Moves (eqb head 0) (lowest-found (merged ready seen) (merged-lt ready seen) f, omega arith)
       (takes (omega arith) (merged ready seen) (queueAt (lowest (merged ready seen))) head))
 
   steps : (n : ℕ) (s : GuestStage) → ServiceInside s words c k → (ready head seen : ℕ) → Moves (guestStagedAt n s c ready words head seen)

@@ -1,7 +1,6 @@
 pub mod Cases
 pub mod CallsCases
 pub mod CallsHypervisorTurns
-pub mod WordLowestLaws
 pub mod SideReach
 pub mod HypervisorReach
 pub mod GuestReach

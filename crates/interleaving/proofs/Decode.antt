@@ -9,10 +9,10 @@ use Rattle.word.specs.Word.{has, mask, allBut, unlinkOperand, link, Width}
 use Rattle.word.specs.Word as word
 use Rattle.word.specs.Effect.{afterOr, afterAnd, casTaken}
 use Rattle.word.proofs.WordLaws.{has-or, has-and, has-zero, has-unlink, has-withLink, link-or, link-and, link-unlink, link-zero, link-withLink}
+use Rattle.word.proofs.ReservedLaws.{reserved, reserved-or, reserved-and, reserved-unlink, reserved-zero, reserved-withLink, word-known}
 use Rattle.word.proofs.EffectLaws.{cas-same, taken-same}
 use Rattle.queue.specs.Model.{Word, zeroWord, withPending, withMasked, withLinked, withLink, sameWord}
 use Rattle.queue.proofs.WordLaws.{same-word-is}
-use Rattle.interleaving.proofs.WordFields.{reserved, reserved-or, reserved-and, reserved-unlink, reserved-zero, reserved-withLink, word-known}
 
 abbrev pub decoded : ℕ → ℕ → Word
 decoded n w = record { pending = has Pending w; masked = has Masked w; linked = has Linked w; reserved = reserved n w; link = link n w }

@@ -1,6 +1,3 @@
-pub mod WordFields
-pub mod WordLowest
-pub mod WordEntry
 pub mod QueueUpdate
 pub mod ReadyBits
 pub mod Decode

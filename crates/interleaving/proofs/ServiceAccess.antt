@@ -15,7 +15,8 @@ use Rattle.word.specs.Word.{has, allBut, unlinkOperand, link, Width, queueAt, p
 use Rattle.word.specs.Effect.{afterRead, afterAnd, afterSwap}
 use Rattle.word.specs.Ready.{merged, cleared, lowest}
 use Rattle.word.proofs.EffectLaws.{read-keeps, swap-puts, and-lt-32}
-use Rattle.word.proofs.LowestLaws.{lowest-set}
+use Rattle.word.proofs.ReadyLaws.{merged-lt}
+use Rattle.word.proofs.LowestLaws.{lowest-set, lowest-found}
 use Rattle.calls.specs.declared.types.Answer.{Answer}
 use Rattle.calls.specs.declared.types.Answer.the-variants.{Done, HandedOver, NothingReady, Taken}
 use Rattle.calls.specs.declared.types.Access.{Access}
@@ -44,7 +45,6 @@ use Rattle.interleaving.specs.Histories.{portIf}
 use Rattle.interleaving.specs.Fresh.{arrayWords, wordAt}
 use Rattle.interleaving.specs.Rules.{Told}
 use Rattle.interleaving.proofs.ReadyBits.{bitsOf, bits-at, bits-cleared, bits-merged, bits-zero}
-use Rattle.interleaving.proofs.WordLowest.{merged-lowest}
 use Rattle.interleaving.proofs.QueueUpdate.{update-self}
 use Rattle.interleaving.proofs.Decode.{decoded, decoded-not-pending, decoded-unlinked}
 use Rattle.interleaving.proofs.View.{viewOf, callOf, guestCallOf, agree, set-update}
@@ -114,7 +114,7 @@ module _ {n : ℕ} (wide : Width n) (w : World) (h : List Event) where
 
       -- the lowest bit is set
       low : eqb local 0 ≡ false → q < 16
-      low e = merged-lowest (w .guest .ready) s e
+      low e = lowest-found local (merged-lt (w .guest .ready) s) e
 
       set-bit : eqb local 0 ≡ false → swapReady 0 v .local q ≡ true
       set-bit e = sym (bits-merged (w .guest .ready) s q) ∙ bits-at local q (low e) ∙ lowest-set local (low e)

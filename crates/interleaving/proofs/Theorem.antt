@@ -10,7 +10,7 @@ use lib.Dec.{lit≤}
 use lib.ListN.{length, getD, replicate}
 use Rattle.word.specs.Word.{Width, linkBits, linkBits-width}
 use Rattle.word.specs.Entry.{freshEntry, lastQueue, everLinked}
-use Rattle.word.proofs.EntryLaws.{lastQueue-lt, everLinked-fresh}
+use Rattle.word.proofs.EntryLaws.{lastQueue-lt, lastQueue-fresh, everLinked-fresh, lastQueue-zero, everLinked-zero}
 use Rattle.calls.specs.declared.types.Owner.{Owner}
 use Rattle.calls.specs.declared.types.Owner.the-variants as owner
 use Rattle.calls.specs.declared.types.Stage.{Stage}
@@ -38,7 +38,6 @@ use Rattle.interleaving.specs.Claim.{Rest, Claim}
 use Rattle.interleaving.specs.Demand3.{Demand3}
 use Rattle.interleaving.specs.Bounds.{BoundsOfEvents}
 use Rattle.interleaving.proofs.ReadyBits.{bits-at, bits-none, bits-zero}
-use Rattle.interleaving.proofs.WordEntry.{lastQueue-fresh, lastQueue-zero, everLinked-zero}
 use Rattle.interleaving.proofs.Decode.{decoded}
 use Rattle.interleaving.proofs.View.{viewOf, unlessNone, callBy, callOf, guestCallBy, guestCallOf, agree}
 use Rattle.interleaving.proofs.Good.{Good}

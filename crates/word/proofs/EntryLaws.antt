@@ -9,7 +9,7 @@ use borrow.Author.Tests.{le-leb}
 use lib.Dec.{eqb, leb, lit≤}
 use Rattle.word.specs.Bits.{field, withField, bit}
 use Rattle.word.specs.Entry.{freshEntry, priority, lastQueue, bound, everLinked, withPriority, boundEntry, closedEntry, linkedEntry}
-use Rattle.word.proofs.BitLaws.{apart, field-lt, field-same, field-other, withField-lt, bit-other}
+use Rattle.word.proofs.BitLaws.{field-lt, field-same, field-other, withField-lt, bit-other}
 
 bit-same : (l e v : ℕ) → bit l (withField l 1 e v) ≡ eqb (v % 2) 1
 unfolding bit
@@ -150,6 +150,20 @@ bound-fresh = refl
 pub everLinked-fresh : everLinked freshEntry ≡ false
 unfolding everLinked bit field
 everLinked-fresh = refl
+
+pub lastQueue-fresh : lastQueue freshEntry ≡ 0
+unfolding lastQueue field
+lastQueue-fresh = refl
+
+-- ---- 0, which is read where the ledger has no entry: never linked
+
+pub lastQueue-zero : lastQueue 0 ≡ 0
+unfolding lastQueue field
+lastQueue-zero = refl
+
+pub everLinked-zero : everLinked 0 ≡ false
+unfolding everLinked bit field
+everLinked-zero = refl
 
 -- ---- how code computes a linked entry: first the last queue, then has been linked
 

@@ -1,6 +1,7 @@
 pub mod Span
 pub mod BitLaws
 pub mod WordLaws
+pub mod ReservedLaws
 pub mod EffectLaws
 pub mod ReadyLaws
 pub mod LowestLaws

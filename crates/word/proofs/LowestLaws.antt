@@ -1,10 +1,11 @@
 -- The laws of the lowest ready queue: it is the least set bit of the sixteen, and 16 where none is set.
 -- Assumes nothing.
 use mathlib.Core.Path.{_≡_, refl, sym, ap, _∙_}
-use mathlib.Core.Bool.{Bool, true, false, true≢false, false≢true}
-use Prim.Native.Nat.{ℕ, zero, suc, _*_, _/_, _%_, _^_, _≤_, _<_, zero-le, suc-le-suc}
+use mathlib.Core.Bool.{true, false, true≢false, false≢true}
+use Prim.Native.Nat.{ℕ, zero, suc, _/_, _%_, _^_, _≤_, _<_, zero-le, suc-le-suc}
 use native.Mathlib.Nat.{le-refl, mod-lt, mod-eq-of-lt, zero-lt-suc, not-suc-le-zero, le-of-suc-le-suc, lt-of-lt-of-le, pow-suc, mul-comm, div-div-eq-div-mul, div-one}
 use native.Mathlib.Omega.{arith}
+use borrow.Author.Tests.{eqb-false}
 use lib.Dec.{eqb}
 use lib.Count.{trailingZeros, under}
 use Rattle.word.specs.Bits.{bit, field}
@@ -66,6 +67,13 @@ trailing-none (suc k) w b =
     (λ e t. ap suc (trailing-none k (w / 2) (λ j m. sym (half-bit j w) ∙ b (suc j) (suc-le-suc m))))
     (λ e t. absurd (true≢false t)) (sym (first-bit w) ∙ b 0 (omega arith))
 
+-- of k bits that are not all clear one is found
+trailing-found : (k w : ℕ) → w < 2 ^ k → 0 < w → trailingZeros k w < k
+unfolding trailingZeros
+trailing-found zero w h l = omega arith
+trailing-found (suc k) w h l =
+    digit (λ x. under x (trailingZeros k (w / 2)) < suc k) (w % 2) (low2 w) (λ e. suc-le-suc (trailing-found k (w / 2) (omega (arith, pow-suc 2 k)) (omega arith))) (λ e. zero-lt-suc k)
+
 -- ---- the lowest of the sixteen
 
 same-bit : (q w : ℕ) → q < 16 → isReady q w ≡ bit q w
@@ -92,3 +100,8 @@ lowest-is w q h s b = trailing-is 16 w q h s b
 pub lowest-none : (w : ℕ) → ((j : ℕ) → j < 16 → bit j w ≡ false) → lowest w ≡ 16
 unfolding lowest
 lowest-none w b = trailing-none 16 w b
+
+-- of sixteen bits that are not all clear, it is one of the sixteen
+pub lowest-found : (w : ℕ) → w < 2 ^ 16 → eqb w 0 ≡ false → lowest w < 16
+unfolding lowest
+lowest-found w h e = trailing-found 16 w h (omega (arith, eqb-false w 0 e))

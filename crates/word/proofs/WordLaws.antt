@@ -1,20 +1,20 @@
--- The laws of event words: flags, LINK and reserved bits after each operand, once over the flag and the number n of link bits.
+-- The laws of event words: flags, LINK and each bit after each operand, once over the flag and the number n of link bits.
 -- Assumes nothing.
-use mathlib.Core.Path.{_≡_, refl, sym, ap, _∙_}
+use mathlib.Core.Path.{_≡_, ap, _∙_}
 use mathlib.Core.Bool.{Bool, true, false, not, _&&_, _||_, Bool·beq}
-use Prim.Native.Nat.{ℕ, suc, _+_, _-_, _*_, _/_, _%_, _^_, _≤_, _<_, zero-le}
+use Prim.Native.Nat.{ℕ, suc, _+_, _-_, _*_, _^_, _≤_, _<_, zero-le}
 use native.Mathlib.Nat.{mod-eq-of-lt}
 use native.Mathlib.Omega.{arith}
 use borrow.Author.Tests.{le-leb}
 use lib.Dec.{T, eqb, leb, leb→le, eqb→eq}
-use lib.Bits.{bitAnd, bitOr, or-zero-r, and-zero-r, and-mask, and-high}
+use lib.Bits.{bitAnd, and-zero-r, and-high}
 use Rattle.word.specs.declared.Flag.{Flag}
 use Rattle.word.specs.declared.Flag.the-variants.{Pending, Masked, Linked}
-use Rattle.word.specs.Bits.{field, withField, bit}
+use Rattle.word.specs.Bits.{field, bit}
 use Rattle.word.specs.Word.{place, has, mask, allBut, unlinkOperand, link, withLink, Width}
 use Rattle.word.specs.Effect.{afterOr, afterAnd}
 use Rattle.word.proofs.Span.{span, within, same, and-left, and-right}
-use Rattle.word.proofs.BitLaws.{field-lt, field-same, withField-lt, bit-other, field-or, field-and, digit, bit-or, bit-and}
+use Rattle.word.proofs.BitLaws.{field-lt, field-same, withField-lt, bit-other, field-and, or-keeps, and-keeps, digit, bit-or, bit-and}
 
 -- ---- tests that antt computes: at each flag, each number of link bits, each bit
 
@@ -22,15 +22,15 @@ use Rattle.word.proofs.BitLaws.{field-lt, field-same, withField-lt, bit
 abbrev pub is : Flag → Flag → Bool
 is f g = eqb (place f) (place g)
 
-abbrev all : (Flag → Bool) → Bool
+abbrev pub all : (Flag → Bool) → Bool
 all t = t Pending && (t Masked && t Linked)
 
-each : (t : Flag → Bool) → T (all t) → (f : Flag) → T (t f)
+pub each : (t : Flag → Bool) → T (all t) → (f : Flag) → T (t f)
 each t h Pending = and-left (t Pending) _ h
 each t h Masked = and-left (t Masked) _ (and-right (t Pending) _ h)
 each t h Linked = and-right (t Masked) _ (and-right (t Pending) _ h)
 
-widths : (t : ℕ → Bool) → T (span t 17 4) → {n : ℕ} → Width n → T (t n)
+pub widths : (t : ℕ → Bool) → T (span t 17 4) → {n : ℕ} → Width n → T (t n)
 widths t h {n} w = within t 17 4 h n (w .least) (omega arith)
 
 -- ---- the bits of the operands
@@ -106,17 +106,12 @@ module _ {n : ℕ} (wide : Width n) where
 
   pub link-or : (f : Flag) (w : ℕ) → link n (afterOr w (mask f)) ≡ link n w
   unfolding link afterOr mask field
-  link-or f w =
-      field-or 0 n w (mask f)
-      ∙ ap (bitOr (field 0 n w)) (eqb→eq _ _ (each (λ f. eqb (field 0 n (mask f)) 0) (widths (λ n. all (λ f. eqb (field 0 n (mask f)) 0)) tt wide) f))
-      ∙ or-zero-r (field 0 n w)
+  link-or f w = or-keeps 0 n w (mask f) (eqb→eq _ _ (each (λ f. eqb (field 0 n (mask f)) 0) (widths (λ n. all (λ f. eqb (field 0 n (mask f)) 0)) tt wide) f))
 
   pub link-and : (f : Flag) (w : ℕ) → link n (afterAnd w (allBut f)) ≡ link n w
   unfolding link afterAnd allBut field
   link-and f w =
-      field-and 0 n w (allBut f)
-      ∙ ap (bitAnd (field 0 n w)) (eqb→eq _ _ (each (λ f. eqb (field 0 n (allBut f)) (2 ^ n - 1)) (widths (λ n. all (λ f. eqb (field 0 n (allBut f)) (2 ^ n - 1))) tt wide) f))
-      ∙ and-mask (field 0 n w) n ∙ mod-eq-of-lt (field-lt 0 n w)
+      and-keeps 0 n w (allBut f) (eqb→eq _ _ (each (λ f. eqb (field 0 n (allBut f)) (2 ^ n - 1)) (widths (λ n. all (λ f. eqb (field 0 n (allBut f)) (2 ^ n - 1))) tt wide) f))
 
   pub link-unlink : (w : ℕ) → link n (afterAnd w (unlinkOperand n)) ≡ 0
   unfolding link afterAnd unlinkOperand field

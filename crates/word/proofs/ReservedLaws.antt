@@ -1,33 +1,20 @@
--- Laws of crate word: the reserved bits of an event word after each access, and that a word is known by its flags, its
--- reserved bits and LINK.
+-- The reserved bits of an event word after each operand, and that a word is known by its flags, its reserved bits and LINK.
 -- Assumes nothing.
 use mathlib.Core.Path.{_≡_, refl, sym, ap, _∙_}
-use mathlib.Core.Bool.{Bool, _&&_, _||_, true≢false, false≢true}
+use mathlib.Core.Bool.{Bool, _||_, true≢false, false≢true}
 use Prim.Native.Nat.{ℕ, _+_, _-_, _*_, _/_, _^_, _<_}
-use native.Mathlib.Nat.{mod-eq-of-lt, add-sub-of-le, div-one}
+use native.Mathlib.Nat.{add-sub-of-le, div-one}
 use native.Mathlib.Omega.{arith}
 use borrow.Author.Tests.{le-leb}
-use lib.Dec.{T, eqb, leb, eqb→eq}
-use lib.Bits.{bitAnd, bitOr, or-zero-r, and-mask}
+use lib.Dec.{eqb, leb, eqb→eq}
 use lib.Pow.{split, shr-shr, shr-lt}
 use Rattle.word.specs.declared.Flag.{Flag}
 use Rattle.word.specs.declared.Flag.the-variants.{Pending, Masked, Linked}
 use Rattle.word.specs.Bits.{field, bit}
 use Rattle.word.specs.Word.{place, has, mask, allBut, unlinkOperand, link, withLink, Width}
 use Rattle.word.specs.Effect.{afterOr, afterAnd}
-use Rattle.word.proofs.Span.{span, within, and-left, and-right}
-use Rattle.word.proofs.BitLaws.{field-lt, field-or, field-and, field-other, digit}
-
-abbrev all : (Flag → Bool) → Bool
-all t = t Pending && (t Masked && t Linked)
-
-each : (t : Flag → Bool) → T (all t) → (f : Flag) → T (t f)
-each t h Pending = and-left (t Pending) _ h
-each t h Masked = and-left (t Masked) _ (and-right (t Pending) _ h)
-each t h Linked = and-right (t Masked) _ (and-right (t Pending) _ h)
-
-widths : (t : ℕ → Bool) → T (span t 17 4) → {n : ℕ} → Width n → T (t n)
-widths t h {n} w = within t 17 4 h n (w .least) (omega arith)
+use Rattle.word.proofs.BitLaws.{field-lt, field-other, or-keeps, and-keeps, digit}
+use Rattle.word.proofs.WordLaws.{all, each, widths}
 
 -- the bits between LINK and LINKED
 unfoldable pub reserved : ℕ → ℕ → ℕ
@@ -37,30 +24,24 @@ module _ {n : ℕ} (wide : Width n) where
   pub reserved-or : (f : Flag) (w : ℕ) → reserved n (afterOr w (mask f)) ≡ reserved n w
   unfolding reserved afterOr mask field
   reserved-or f w =
-      field-or n (29 - n) w (mask f)
-      ∙ ap (bitOr (field n (29 - n) w)) (eqb→eq _ _ (each (λ f. eqb (field n (29 - n) (mask f)) 0) (widths (λ n. all (λ f. eqb (field n (29 - n) (mask f)) 0)) tt wide) f))
-      ∙ or-zero-r (field n (29 - n) w)
-
-  -- an and whose operand has every reserved bit
-  kept : (w m : ℕ) → field n (29 - n) m ≡ 2 ^ (29 - n) - 1 → reserved n (afterAnd w m) ≡ reserved n w
-  unfolding reserved afterAnd
-  kept w m e = field-and n (29 - n) w m ∙ ap (bitAnd (field n (29 - n) w)) e ∙ and-mask (field n (29 - n) w) (29 - n) ∙ mod-eq-of-lt (field-lt n (29 - n) w)
+      or-keeps n (29 - n) w (mask f) (eqb→eq _ _ (each (λ f. eqb (field n (29 - n) (mask f)) 0) (widths (λ n. all (λ f. eqb (field n (29 - n) (mask f)) 0)) tt wide) f))
 
   pub reserved-and : (f : Flag) (w : ℕ) → reserved n (afterAnd w (allBut f)) ≡ reserved n w
-  unfolding allBut field
-  reserved-and f w = kept w (allBut f) (eqb→eq _ _ (each (λ f. eqb (field n (29 - n) (allBut f)) (2 ^ (29 - n) - 1)) (widths (λ n. all (λ f. eqb (field n (29 - n) (allBut f)) (2 ^ (29 - n) - 1))) tt wide) f))
+  unfolding reserved afterAnd allBut field
+  reserved-and f w =
+      and-keeps n (29 - n) w (allBut f) (eqb→eq _ _ (each (λ f. eqb (field n (29 - n) (allBut f)) (2 ^ (29 - n) - 1)) (widths (λ n. all (λ f. eqb (field n (29 - n) (allBut f)) (2 ^ (29 - n) - 1))) tt wide) f))
 
   pub reserved-unlink : (w : ℕ) → reserved n (afterAnd w (unlinkOperand n)) ≡ reserved n w
-  unfolding unlinkOperand field
-  reserved-unlink w = kept w (unlinkOperand n) (eqb→eq _ _ (widths (λ n. eqb (field n (29 - n) (unlinkOperand n)) (2 ^ (29 - n) - 1)) tt wide))
-
-  pub reserved-zero : reserved n 0 ≡ 0
-  unfolding reserved field
-  reserved-zero = eqb→eq _ _ (widths (λ n. eqb (field n (29 - n) 0) 0) tt wide)
+  unfolding reserved afterAnd unlinkOperand field
+  reserved-unlink w = and-keeps n (29 - n) w (unlinkOperand n) (eqb→eq _ _ (widths (λ n. eqb (field n (29 - n) (unlinkOperand n)) (2 ^ (29 - n) - 1)) tt wide))
 
   pub reserved-withLink : (w p : ℕ) → reserved n (withLink n w p) ≡ reserved n w
   unfolding reserved withLink
   reserved-withLink w p = field-other 0 n w p n (29 - n) (ap (λ (t : Bool). t || leb (29 - n + n) 0) (le-leb (0 + n) n (omega arith)))
+
+  pub reserved-zero : reserved n 0 ≡ 0
+  unfolding reserved field
+  reserved-zero = eqb→eq _ _ (widths (λ n. eqb (field n (29 - n) 0) 0) tt wide)
 
 -- ---- a word by its parts
 
