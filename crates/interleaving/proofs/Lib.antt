@@ -1,4 +1,3 @@
-pub mod QueueUpdate
 pub mod ReadyBits
 pub mod Decode
 pub mod View

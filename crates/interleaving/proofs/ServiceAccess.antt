@@ -39,13 +39,13 @@ use Rattle.queue.specs.Model.GuestCall.{noService, atG0, atG1, atG2, atG3, atG4
 use Rattle.queue.specs.Stages.{swapReady, localAtG2, G0, G1, G2, G3, G4}
 use Rattle.queue.specs.Invariant.{Real, Inv}
 use Rattle.queue.proofs.Cases.{clash}
+use Rattle.queue.proofs.UpdateLaws.{update-self}
 use Rattle.queue.proofs.Service.{G0-keeps, G0-real, G1-keeps, G1-real, G3-keeps, G4-keeps}
 use Rattle.queue.proofs.GiveOut.{G2-keeps, G2-real, G2-first}
 use Rattle.interleaving.specs.Histories.{portIf}
 use Rattle.interleaving.specs.Fresh.{arrayWords, wordAt}
 use Rattle.interleaving.specs.Rules.{Told}
 use Rattle.interleaving.proofs.ReadyBits.{bitsOf, bits-at, bits-cleared, bits-merged, bits-zero}
-use Rattle.interleaving.proofs.QueueUpdate.{update-self}
 use Rattle.interleaving.proofs.Decode.{decoded, decoded-not-pending, decoded-unlinked}
 use Rattle.interleaving.proofs.View.{viewOf, callOf, guestCallOf, agree, set-update}
 use Rattle.interleaving.proofs.HistoryLaws.{order-quiet, order-given}
