@@ -1,7 +1,7 @@
 -- The claims about the guest's calls and replies.
 -- Assumes nothing.
 use Prim.Native.Nat.{ℕ, _%_}
-use mathlib.Core.Path.{_≡_, refl, sym, ap, _∙_}
+use mathlib.Core.Path.{_≡_, refl, sym, ap, subst, _∙_}
 use mathlib.Core.Bool.{Bool, true, false, cond, not, _&&_, true≢false, false≢true}
 use mathlib.Core.List.{List}
 use mathlib.Core.Logic.{inl, inr, ⊎-elim, _≢_}
@@ -13,7 +13,7 @@ use Rattle.word.specs.declared.Queue.{Queue}
 use Rattle.word.proofs.ReadyLaws.{ready-cleared}
 use Rattle.calls.specs.declared.types.Access.{Access}
 use Rattle.calls.specs.declared.types.Answer.{Answer}
-use Rattle.calls.specs.declared.types.Answer.the-variants.{Done, NoCall, BadIndex}
+use Rattle.calls.specs.declared.types.Answer.the-variants.{Done, CallUnderWay, NoCall, BadIndex}
 use Rattle.calls.specs.declared.types.Next.the-variants as next
 use Rattle.calls.specs.declared.types.GuestCall.{GuestCall}
 use Rattle.calls.specs.declared.types.Guest.{Guest}
@@ -33,25 +33,34 @@ use Rattle.calls.proofs.CountLaws.{stays, counts}
 abbrev isBadIndex : Answer → Bool
 isBadIndex a = eqb (codeOf a .number) 18
 
+-- an act is refused that leaves the record: a service during one, or a reply to none
+pub data Refusal (g : Guest) : GuestAct → Answer → Type 0 where
+  fifteen : Refusal g Serves CallUnderWay
+  sixteen : {seen : ℕ} → isServing (g .call .stage) ≡ false → Refusal g (ServiceReplies seen) NoCall
+
 data Kind (n : ℕ) (g : Guest) : GuestAct → GuestOutcome → Type 0 where
-  refused : {act : GuestAct} {a : Answer} → isBadIndex a ≡ false → Kind n g act (guestAnswered g a)
+  refused : {act : GuestAct} {a : Answer} → Refusal g act a → Kind n g act (guestAnswered g a)
   told : {words : ℕ} {after : Guest} → after .call ≡ g .call → Kind n g (Tells words) (guestAnswered after Done)
   begun : {after : Guest} → isServing (after .call .stage) ≡ true → after .call .count ≡ 1 → Kind n g Serves (guestGoingOn n after Done 0)
   carried : {seen : ℕ} {m : GuestMove} → isServing (g .call .stage) ≡ true → Kept (g .call .stage) (g .call) (g .ready) seen m → Kind n g (ServiceReplies seen) (guestCarriedOut n g m)
 
 kind : (n : ℕ) (g : Guest) (act : GuestAct) → Kind n g act (guestTurnOf n g act)
-unfolding serviceStart serviceReply tellOf isServing codeOf
-kind n g Serves = choose (Kind n g Serves) (isServing (g .call .stage)) (refused refl) (begun refl refl)
+unfolding serviceStart serviceReply tellOf isServing
+kind n g Serves = choose (Kind n g Serves) (isServing (g .call .stage)) (refused fifteen) (begun refl refl)
 kind n g (Tells words) = choose (Kind n g (Tells words)) (ltb (g .words) words) (told refl) (told refl)
 kind n g (ServiceReplies seen) = go (isServing (g .call .stage)) refl
   where
     go : (b : Bool) → isServing (g .call .stage) ≡ b → Kind n g (ServiceReplies seen) (cond (not b) (guestAnswered g NoCall) (guestCarriedOut n g (guestMove n g seen)))
     go true u = carried u (kept n (g .call) _ _ _ seen u)
-    go false u = refused refl
+    go false u = refused (sixteen u)
 
 -- ---- what guestNext comes to
 
 module _ (n : ℕ) (g : Guest) where
+  pub guest-next-answer : (a : Answer) (k : ℕ) → isServing (g .call .stage) ≡ false → guestNext n g a k ≡ next.Answer a k
+  unfolding guestNext
+  guest-next-answer a k free = simp free
+
   next-due : (a : Answer) (k : ℕ) (x : Access) → guestNext n g a k ≡ next.Access x → guestDueOf n g ≡ next.Access x
   unfolding guestNext
   next-due a k x e = access-due a k _ NoCall 0 (not (isServing (g .call .stage))) e
@@ -98,6 +107,11 @@ bad-index : (a : Answer) → isBadIndex a ≡ false → a ≢ BadIndex
 unfolding codeOf
 bad-index a f e = true≢false (sym (ap isBadIndex e) ∙ f)
 
+not-18 : {g : Guest} {act : GuestAct} {a : Answer} → Refusal g act a → isBadIndex a ≡ false
+unfolding codeOf
+not-18 fifteen = refl
+not-18 (sixteen h) = refl
+
 refusal-18 : isRefusal BadIndex ≡ true
 unfolding codeOf
 refusal-18 = refl
@@ -115,8 +129,9 @@ module _ (n : ℕ) (g : Guest) where
   due-kind (begun u one) x e = next-due n _ _ _ x e
   due-kind (carried u k) x e = next-due n _ _ _ x e
 
-  refusal-kind : {act : GuestAct} {t : GuestOutcome} → Kind n g act t → (a : Answer) (count : ℕ) → t .next ≡ next.Answer a count → isRefusal a ≡ true → a ≢ BadIndex → t ≡ guestAnswered g a
-  refusal-kind (refused h) a count e r s = ap (guestAnswered g) (same-answer e)
+  refusal-kind : {act : GuestAct} {t : GuestOutcome} → Kind n g act t → (a : Answer) (count : ℕ) → t .next ≡ next.Answer a count → isRefusal a ≡ true → a ≢ BadIndex →
+      (t ≡ guestAnswered g a) × Refusal g act a
+  refusal-kind {act} (refused h) a count e r s = (ap (guestAnswered g) (same-answer e), subst (Refusal g act) (same-answer e) h)
   refusal-kind (told c) a count e r s = absurd (true≢false (sym r ∙ (ap isRefusal (sym (same-answer e)) ∙ not-refusal)))
   refusal-kind (begun u one) a count e r s = absurd (true≢false (sym u ∙ next-free n _ _ _ a count e .0))
   refusal-kind (carried u k) a count e r s =
@@ -124,7 +139,7 @@ module _ (n : ℕ) (g : Guest) where
       absurd (s (sym same ∙ ⊎-elim (λ p. ap (λ (m : GuestMove). m .answer) (p .1)) (λ p. ap (λ (m : GuestMove). m .answer) (p .1)) (k .refused (ap isRefusal same ∙ r))))
 
   bad-index-kind : {act : GuestAct} {t : GuestOutcome} → Kind n g act t → (count : ℕ) → t .next ≡ next.Answer BadIndex count → (seen : ℕ) × (act ≡ ServiceReplies seen) × ServedQueueCleared g seen (t .guest)
-  bad-index-kind (refused h) count e = absurd (bad-index _ h (same-answer e))
+  bad-index-kind (refused h) count e = absurd (bad-index _ (not-18 h) (same-answer e))
   bad-index-kind (told c) count e = absurd (true≢false (sym refusal-18 ∙ (ap isRefusal (sym (same-answer e)) ∙ not-refusal)))
   bad-index-kind (begun u one) count e = absurd (true≢false (sym u ∙ next-free n _ _ _ BadIndex count e .0))
   bad-index-kind (carried {seen} {m} u k) count e = (seen, refl, cleared-kept g m k (ap isRefusal (same-answer (next-free n _ _ _ BadIndex count e .1)) ∙ refusal-18))
@@ -154,7 +169,11 @@ pub guest-names-due : (n : ℕ) → NamesDue (guestSide n)
 guest-names-due n g act = due-kind n g (kind n g act)
 
 pub guest-refusals-keep : GuestRefusalsKeep
-guest-refusals-keep n g act = refusal-kind n g (kind n g act)
+guest-refusals-keep n g act a count e r s = refusal-kind n g (kind n g act) a count e r s .0
+
+-- a refusal but 18: 15 of a service, or a reply's 16
+pub guest-why-refused : (n : ℕ) (g : Guest) (act : GuestAct) (a : Answer) (count : ℕ) → guestTurnOf n g act .next ≡ next.Answer a count → isRefusal a ≡ true → a ≢ BadIndex → Refusal g act a
+guest-why-refused n g act a count e r s = refusal-kind n g (kind n g act) a count e r s .1
 
 pub bad-index-ends : BadIndexEnds
 bad-index-ends n g act = bad-index-kind n g (kind n g act)

@@ -1,4 +1,5 @@
--- What every step of a reply to the hypervisor keeps to, by stage: its count, its answer, and the tail that it changes.
+-- What every step of a reply to the hypervisor keeps to, by stage: its port, its count, its answer, and the tail that it
+-- changes.
 -- Assumes nothing.
 use Prim.Native.Nat.{ℕ}
 use mathlib.Core.Path.{_≡_, refl, sym, ap, _∙_}
@@ -31,6 +32,7 @@ use Rattle.calls.proofs.Cases.{choose}
 
 -- at stage s of the call c, on a port whose entry is e, a step comes to m
 pub record Kept (s : Stage) (c : Call) (e : ℕ) (m : Move) : Type 0 where
+  pub port : isFree (m .call .owner) ≡ false → m .call .port ≡ c .port
   pub going : isFree (m .call .owner) ≡ false → m .call .count ≡ oneMore (c .count)
   pub ended : isFree (m .call .owner) ≡ true → m .count ≡ c .count
   pub refused : isRefusal (m .answer) ≡ true → (c .owner ≡ owner.Bind) × (m ≡ ends e StillLinked (c .count))
@@ -39,22 +41,22 @@ pub record Kept (s : Stage) (c : Call) (e : ℕ) (m : Move) : Type 0 where
 module _ (s : Stage) (c : Call) (e : ℕ) where
   kept-ends : (e′ : ℕ) (a : Answer) → isRefusal a ≡ false → Kept s c e (ends e′ a (c .count))
   unfolding isFree
-  kept-ends e′ a h = record { going = λ t. absurd (true≢false t); ended = λ t. refl; refused = λ t. absurd (true≢false (sym t ∙ h)); tail = inl refl }
+  kept-ends e′ a h = record { port = λ t. absurd (true≢false t); going = λ t. absurd (true≢false t); ended = λ t. refl; refused = λ t. absurd (true≢false (sym t ∙ h)); tail = inl refl }
 
   kept-tailed : (a : Answer) → isRefusal a ≡ false → ((tails : List ℕ) → set tails (c .queue .0) (c .port .0) ≡ tailsChanged s c e tails) → Kept s c e (endsTailed e c a)
   unfolding isFree
-  kept-tailed a h t = record { going = λ f. absurd (true≢false f); ended = λ f. refl; refused = λ f. absurd (true≢false (sym f ∙ h)); tail = inr t }
+  kept-tailed a h t = record { port = λ f. absurd (true≢false f); going = λ f. absurd (true≢false f); ended = λ f. refl; refused = λ f. absurd (true≢false (sym f ∙ h)); tail = inr t }
 
   module _ (busy : isFree (c .owner) ≡ false) where
-    kept-goes : (e′ : ℕ) (c′ : Call) (q : Queue) → c′ .owner ≡ c .owner → c′ .count ≡ oneMore (c .count) →
+    kept-goes : (e′ : ℕ) (c′ : Call) (q : Queue) → c′ .owner ≡ c .owner → c′ .port ≡ c .port → c′ .count ≡ oneMore (c .count) →
         (q .0 ≡ 16) ⊎ ((tails : List ℕ) → set tails (q .0) 0 ≡ tailsChanged s c e tails) →
         Kept s c e (record { queue = q; tail = 0; entry = e′; call = c′; answer = Done; count = 0 })
     unfolding codeOf
-    kept-goes e′ c′ q o k t =
-        record { going = λ f. k; ended = λ f. absurd (true≢false (sym f ∙ (ap isFree o ∙ busy))); refused = λ f. absurd (false≢true f); tail = t }
+    kept-goes e′ c′ q o p k t =
+        record { port = λ f. p; going = λ f. k; ended = λ f. absurd (true≢false (sym f ∙ (ap isFree o ∙ busy))); refused = λ f. absurd (false≢true f); tail = t }
 
-    kept-on : (c′ : Call) → c′ .owner ≡ c .owner → c′ .count ≡ oneMore (c .count) → Kept s c e (goesOn e c′)
-    kept-on c′ o k = kept-goes e c′ (queueAt 16) o k (inl refl)
+    kept-on : (c′ : Call) → c′ .owner ≡ c .owner → c′ .port ≡ c .port → c′ .count ≡ oneMore (c .count) → Kept s c e (goesOn e c′)
+    kept-on c′ o p k = kept-goes e c′ (queueAt 16) o p k (inl refl)
 
 module _ (c : Call) (e seen : ℕ) (busy : isFree (c .owner) ≡ false) where
   -- R1 and U1
@@ -62,14 +64,14 @@ module _ (c : Call) (e seen : ℕ) (busy : isFree (c .owner) ≡ false) where
   unfolding codeOf
   kept-link b b′ =
       choose (Kept First c e) b (kept-ends First c e e Done refl)
-      (choose (Kept First c e) b′ (kept-ends First c e e Done refl) (kept-on First c e busy _ refl refl))
+      (choose (Kept First c e) b′ (kept-ends First c e e Done refl) (kept-on First c e busy _ refl refl refl))
 
   kept-first : (o : Owner) → c .owner ≡ o → Kept First c e (replyFirstOf o c e seen)
   unfolding replyR1 replyU1 replyBind replyClose codeOf isFree
   kept-first owner.None h = absurd (true≢false (sym (ap isFree h) ∙ busy))
   kept-first owner.Bind h =
       choose (Kept First c e) (has Linked seen)
-      (record { going = λ f. absurd (true≢false f); ended = λ f. refl; refused = λ f. (h, refl); tail = inl refl })
+      (record { port = λ f. absurd (true≢false f); going = λ f. absurd (true≢false f); ended = λ f. refl; refused = λ f. (h, refl); tail = inl refl })
       (kept-ends First c e (boundEntry e) Done refl)
   kept-first owner.Close h = kept-ends First c e (closedEntry e) Done refl
   kept-first owner.Raise h = kept-link (has Masked seen) (has Linked seen)
@@ -88,7 +90,7 @@ module _ (c : Call) (e seen : ℕ) (busy : isFree (c .owner) ≡ false) where
   unfolding replyR2 codeOf afterR2
   kept-R2 v =
       choose (Kept R2 c e) (has Linked seen) (kept-ends R2 c e e Done refl)
-      (kept-goes R2 c e busy (linkedEntry e (priority e)) (afterR2 c q t) _ (going .0) (going .1) (stale-place (c .port) q _))
+      (kept-goes R2 c e busy (linkedEntry e (priority e)) (afterR2 c q t) _ (going .0) (going .1) (going .2) (stale-place (c .port) q _))
     where
       q : Queue
       q = queueAt (priority e)
@@ -97,25 +99,25 @@ module _ (c : Call) (e seen : ℕ) (busy : isFree (c .owner) ≡ false) where
       t = effectiveTail (v .pages) (v .tail)
 
       Goes : Call → Type 0
-      Goes c′ = (c′ .owner ≡ c .owner) × (c′ .count ≡ oneMore (c .count))
+      Goes c′ = (c′ .owner ≡ c .owner) × (c′ .port ≡ c .port) × (c′ .count ≡ oneMore (c .count))
 
       going : Goes (afterR2 c q t)
-      going = choose Goes (eqb t 0) (refl, refl) (choose Goes (eqb t (c .port .0)) (refl, refl) (refl, refl))
+      going = choose Goes (eqb t 0) (refl, refl, refl) (choose Goes (eqb t (c .port .0)) (refl, refl, refl) (refl, refl, refl))
 
   kept-R4 : Kept R4 c e (replyR4 c e seen)
   unfolding replyR4 triesCas codeOf
   kept-R4 =
       choose (Kept R4 c e) (casTaken seen (c .word)) (kept-tailed R4 c e Done refl (λ tails. refl))
-      (choose (Kept R4 c e) (not (has Linked seen)) (kept-on R4 c e busy _ refl refl)
-      (choose (Kept R4 c e) (leb 4 (c .tries)) (kept-tailed R4 c e LinkAbandoned refl (λ tails. refl)) (kept-on R4 c e busy _ refl refl)))
+      (choose (Kept R4 c e) (not (has Linked seen)) (kept-on R4 c e busy _ refl refl refl)
+      (choose (Kept R4 c e) (leb 4 (c .tries)) (kept-tailed R4 c e LinkAbandoned refl (λ tails. refl)) (kept-on R4 c e busy _ refl refl refl)))
 
   kept-at : (s : Stage) (v : View) → Kept s c e (stagedAt s c e v seen)
   unfolding replyFirst triesCas replyR5 replyR6 codeOf isFree
   kept-at First v = kept-first (c .owner) refl
   kept-at R2 v = kept-R2 v
-  kept-at R3 v = choose (Kept R3 c e) (not (has Linked seen)) (kept-on R3 c e busy _ refl refl) (kept-on R3 c e busy _ refl refl)
+  kept-at R3 v = choose (Kept R3 c e) (not (has Linked seen)) (kept-on R3 c e busy _ refl refl refl) (kept-on R3 c e busy _ refl refl refl)
   kept-at R4 v = kept-R4
-  kept-at R5 v = record { going = λ f. refl; ended = λ f. absurd (true≢false (sym f ∙ busy)); refused = λ f. absurd (false≢true f); tail = inr (λ tails. refl) }
+  kept-at R5 v = record { port = λ f. refl; going = λ f. refl; ended = λ f. absurd (true≢false (sym f ∙ busy)); refused = λ f. absurd (false≢true f); tail = inr (λ tails. refl) }
   kept-at R6 v = choose (Kept R6 c e) (isReady (c .queue .0) seen) (kept-ends R6 c e e Done refl) (kept-ends R6 c e e UpcallWanted refl)
 
   pub kept : (v : View) → Kept (c .stage) c e (staged c e v seen)

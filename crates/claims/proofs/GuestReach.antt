@@ -26,12 +26,11 @@ use Rattle.calls.specs.declared.guest.GuestMove.{GuestMove}
 use Rattle.calls.specs.Records.{isPort}
 use Rattle.calls.specs.Guest.{isServing, takesIndex, replyG0, replyG2, replyG3, replyG4, guestStagedAt, guestStaged, guestDueAt, guestDue, guestNext, guestDueOf, guestCarriedOut, guestMove, guestMoved, serviceStart, serviceReply, maskOf, tellOf}
 use Rattle.calls.specs.Claims.{GuestAct, Serves, ServiceReplies, Tells, guestTurnOf, isGuestReply, guestSide, Counting, namedAfter, runOne}
-use Rattle.calls.proofs.Cases.{choose, no-access}
+use Rattle.calls.proofs.Cases.{choose, by-test, no-access, same-access}
+use Rattle.calls.proofs.RecordLaws.{is-port}
 use Rattle.calls.proofs.GuestClaims.{guest-names-due, counts-services}
 use Rattle.machine.specs.Memory.{placeOf}
 use Rattle.claims.specs.Reach.{PortInside, Inside, serviceLimit, ServicesBounded, wordsTold, WordsAreTold, MaskInside, MasksInside}
-use Rattle.claims.proofs.CallsHypervisorTurns.{is-port}
-use Rattle.claims.proofs.CallsCases.{by-test, same-access}
 use Rattle.claims.proofs.SideReach.{bounded}
 
 -- ---- the invariant

@@ -34,13 +34,13 @@ use Rattle.calls.specs.declared.hypervisor.stage.Move.{Move}
 use Rattle.calls.specs.Records.{isFree, effectiveTail, inArray, callAt, withCall, freshDomain}
 use Rattle.calls.specs.Hypervisor.{Turn, goesOn, ends, endsTailed, named, replyR1, replyU1, replyBind, replyClose, replyFirstOf, replyFirst, staleQueue, afterR2, replyR2, triesCas, replyR4, replyR5, replyR6, stagedAt, staged, viewOf, moved, dueFirst, dueAt, due, nextOf, dueOf}
 use Rattle.calls.specs.Claims.{Act, isReply, hypervisorSide, Counting, namedAfter, runOne}
-use Rattle.calls.proofs.Cases.{choose, no-access, same-answer}
-use Rattle.calls.proofs.HypervisorClaims.{names-due, counts-calls}
+use Rattle.calls.proofs.Cases.{choose, by-test, no-access, same-access, same-answer}
+use Rattle.calls.proofs.RecordLaws.{is-port, in-array}
+use Rattle.calls.proofs.HypervisorTurns.{entryOf, replyMove, atStart, sixteen, fourteen, Kind, refused, settled, begun, carried, kind}
+use Rattle.calls.proofs.HypervisorClaims.{next-access, next-answer, names-due, counts-calls}
 use Rattle.machine.specs.Memory.{placeOf}
 use Rattle.claims.specs.Reach.{PortInside, Inside, arrayWords, callLimit, CallsBounded, TailsInside, TailsStayInside}
-use Rattle.claims.proofs.CallsCases.{by-test, same-access}
 use Rattle.claims.proofs.SideReach.{always, bounded}
-use Rattle.claims.proofs.CallsHypervisorTurns.{next-access, next-answer, in-array, Result, stays, begun, noCall, noEntry, carried, result}
 
 -- ---- the invariant
 
@@ -242,28 +242,27 @@ module _ (n : ℕ) (d : Domain) (k : ℕ) (i : Invariant (record { state = d; na
           rw (next-access n (moved d m) (m .answer) (m .count) e)
           (record { tails = tails; most = at-most (m .call .stage) (m .call .tries) (k + 1) (h .call e .tries) (h .call e .length); call = h .call })
 
-  keeps-turn : {act : Act} {t : Turn} → Result n d act t → Kept (isReply act) (t .outcome .domain) (t .outcome .next)
+  keeps-turn : {act : Act} {t : Turn} → Kind n d act t → Kept (isReply act) (t .outcome .domain) (t .outcome .next)
   unfolding staged viewOf
-  keeps-turn (stays {pages = pages} h) =
+  keeps-turn (refused h) = i
+  keeps-turn (settled {pages = pages} h more b) =
       record {
         tails = record { size = i .tails .size; tails = λ q. ⊎-elim inl (λ t. inr (wider (omega arith) t)) (i .tails .tails q) };
         most = i .most;
         call = λ f. let j = i .call f in
             record { port = wider (omega arith) (j .port); queue = j .queue; tries = j .tries; length = j .length; tail = wider-due (d .call .stage) (arrayWords d) (1024 * pages) _ (omega arith) (j .tail) };
       }
-  keeps-turn (begun {o = o} {p = p} busy inside entry) =
+  keeps-turn (begun {o = o} {p = p} busy on) =
       rw (next-access n (withCall d (callAt o First p (queueAt 0) 1)) Done 0 busy)
-      (record { tails = record { size = i .tails .size; tails = i .tails .tails }; most = omega arith; call = λ f. record { port = inside; queue = omega arith; tries = omega arith; length = omega arith; tail = tt } })
-  keeps-turn (noCall h) = i
-  keeps-turn (noEntry h l) = i
-  keeps-turn (carried {seen = seen} e busy) =
+      (record { tails = record { size = i .tails .size; tails = i .tails .tails }; most = omega arith; call = λ f. record { port = record { positive = is-port n (p .0) (on .port); below = in-array (d .pages) (p .0) (on .inside) }; queue = omega arith; tries = omega arith; length = omega arith; tail = tt } })
+  keeps-turn (carried {seen = seen} {ledger = ledger} busy kept) =
       let j = i .call busy in
-      carried-keeps (staged (d .call) e (viewOf d e) seen) (steps (d .pages) (d .tails) (i .tails .size) (d .call) k (j .port) e seen (j .queue) (d .call .stage) (j .tries) (j .length) (j .tail) _)
+      carried-keeps (replyMove d ledger seen) (steps (d .pages) (d .tails) (i .tails .size) (d .call) k (j .port) (entryOf d ledger) seen (j .queue) (d .call .stage) (j .tries) (j .length) (j .tail) _)
 
 -- ---- the claims
 
 keeps : (n : ℕ) (s : Counting Domain) → Invariant s → (act : Act) → Invariant (runOne (hypervisorSide n) s act)
-keeps n s i act = keeps-turn n (s .state) (s .named) i (result n (s .state) act)
+keeps n s i act = keeps-turn n (s .state) (s .named) i (kind n (s .state) act)
 
 zeros : (m q : ℕ) → getD (replicate {A = ℕ} m 0) q 0 ≡ 0
 zeros zero q = refl
@@ -281,15 +280,16 @@ waits-inside n s i x =
     (λ h e. absurd (no-access e))
     (λ h e. let j = i .call h in subst (λ y. Inside (arrayWords (s .state)) (placeOf y)) (same-access e) (due-inside _ _ (s .state .call) (j .port) (j .queue) n (s .state .call .stage) (j .tail)))
 
-ends-turn : (n : ℕ) (d : Domain) {act : Act} {t : Turn} → Result n d act t → (a : Answer) (count : ℕ) → isReply act ≡ true → t .outcome .next ≡ next.Answer a count → a ≢ NoEntry → not (isFree (t .outcome .domain .call .owner)) ≡ false
-ends-turn n d (stays h) a count r e f = absurd (false≢true r)
-ends-turn n d (begun busy inside entry) a count r e f = absurd (false≢true r)
-ends-turn n d (noCall h) a count r e f = ap not h
-ends-turn n d (noEntry h l) a count r e f = absurd (f (sym (same-answer e)))
-ends-turn n d (carried {seen = seen} x busy) a count r e f = go (isFree (moved d m .call .owner)) refl
+ends-turn : (n : ℕ) (d : Domain) {act : Act} {t : Turn} → Kind n d act t → (a : Answer) (count : ℕ) → isReply act ≡ true → t .outcome .next ≡ next.Answer a count → a ≢ NoEntry → not (isFree (t .outcome .domain .call .owner)) ≡ false
+ends-turn n d (refused (atStart h)) a count r e f = absurd (false≢true r)
+ends-turn n d (refused (sixteen h)) a count r e f = ap not h
+ends-turn n d (refused (fourteen h l)) a count r e f = absurd (f (sym (same-answer e)))
+ends-turn n d (settled h more b) a count r e f = absurd (false≢true r)
+ends-turn n d (begun busy on) a count r e f = absurd (false≢true r)
+ends-turn n d (carried {seen = seen} {ledger = ledger} busy kept) a count r e f = go (isFree (moved d m .call .owner)) refl
   where
     m : Move
-    m = staged (d .call) x (viewOf d x) seen
+    m = replyMove d ledger seen
 
     go : (free : Bool) → isFree (moved d m .call .owner) ≡ free → not free ≡ false
     go true h = refl
@@ -304,7 +304,7 @@ calls-bounded n =
       keeps = keeps n;
       length = λ s i. i .most;
       due = waits-inside n;
-      ends = λ d act. ends-turn n d (result n d act);
+      ends = λ d act. ends-turn n d (kind n d act);
       free = refl;
     })
     (names-due n) (counts-calls n)

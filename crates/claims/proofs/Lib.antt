@@ -1,12 +1,7 @@
 pub mod Cases
-pub mod CallsCases
-pub mod CallsHypervisorTurns
 pub mod SideReach
 pub mod HypervisorReach
 pub mod GuestReach
-pub mod CallsReplies
-pub mod MachineSteps
 pub mod Refusals
-pub mod CallsHypervisorSteps
 pub mod Entries
 pub mod LongestCalls

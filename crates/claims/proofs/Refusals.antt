@@ -2,7 +2,7 @@
 -- Assumes nothing.
 use Prim.Native.Nat.{ℕ}
 use mathlib.Core.Path.{_≡_, refl, sym, ap, subst, _∙_}
-use mathlib.Core.Bool.{true, false, true≢false}
+use mathlib.Core.Bool.{true, false, true≢false, false≢true}
 use mathlib.Core.List.{List, _++_}
 use mathlib.Core.Logic.{_≢_}
 use native.Mathlib.Omega.{arith}
@@ -18,20 +18,21 @@ use Rattle.calls.specs.declared.types.Owner.the-variants as owner
 use Rattle.calls.specs.Records.{isFree, idleCall, withCall}
 use Rattle.calls.specs.Guest.{isServing}
 use Rattle.calls.specs.Hypervisor.{Turn, turn}
-use Rattle.calls.specs.Claims.{Act, turnOf, guestTurnOf, lent, isRefusal, ServedQueueCleared}
+use Rattle.calls.specs.Claims.{Act, GuestAct, turnOf, guestTurnOf, lent, isReply, isGuestReply, isRefusal, ServedQueueCleared}
 use Rattle.calls.proofs.Cases.{same-answer}
-use Rattle.calls.proofs.HypervisorClaims.{refusals-keep, still-linked-ends}
-use Rattle.calls.proofs.GuestClaims.{guest-refusals-keep, bad-index-ends}
+use Rattle.calls.proofs.HypervisorTurns.{Refusal, atStart, sixteen, fourteen}
+use Rattle.calls.proofs.HypervisorClaims.{refusals-keep, why-refused, still-linked-ends}
+use Rattle.calls.proofs.GuestClaims as guest
+use Rattle.calls.proofs.GuestClaims.{guest-refusals-keep, guest-why-refused, bad-index-ends}
 use Rattle.machine.specs.declared.types.Side.{Side}
 use Rattle.machine.specs.declared.types.Side.the-variants as side
 use Rattle.machine.specs.declared.types.Step.{Step}
 use Rattle.machine.specs.declared.types.Event.{Event}
 use Rattle.machine.specs.declared.types.Event.the-variants.{Nothing, HypervisorAccess, GuestAccess, MaskAccess, HypervisorAnswer, GuestAnswer}
 use Rattle.machine.specs.Memory.{Memory}
-use Rattle.machine.specs.Exec.{World, Advanced, world, stepOf, listOf, hypervisorAnswer, guestAnswer, isAnswer}
-use Rattle.claims.specs.Refusals.{Gives, hypervisorGives, guestGives, later, ending, isReplyStep, memoryAfter, worldWith, RefusedStepsKeep, RefusedStepsChangeNothing, StillLinkedSteps, BadIndexSteps}
-use Rattle.claims.proofs.CallsReplies.{ReplyRefused, sixteen, fourteen, seven, reply-refused, ServiceRefused, sixteenServing, eighteen, service-refused}
-use Rattle.claims.proofs.MachineSteps.{Did, hypervisorDid, guestDid, maskDid, did}
+use Rattle.machine.specs.Exec.{World, Advanced, world, stepOf, listOf, hypervisorAnswer, guestAnswer, isAnswer, isReplyStep, memoryAfter}
+use Rattle.machine.proofs.StepActs.{Acted, byHypervisor, byGuest, byMask, acted}
+use Rattle.claims.specs.Refusals.{Gives, hypervisorGives, guestGives, later, ending, worldWith, RefusedStepsKeep, RefusedStepsChangeNothing, StillLinkedSteps, BadIndexSteps}
 
 -- ---- the answer of a step
 
@@ -90,14 +91,14 @@ guest-memory m access x = access-alone m access _ (guest-answer-keeps x)
 
 -- ---- a reply's refusals
 
-only-16 : {d : Domain} {entries : ℕ} {a : Answer} → ReplyRefused d entries a → a ≢ StillLinked → a ≢ NoEntry → isFree (d .call .owner) ≡ true
-only-16 (sixteen free) f g = free
-only-16 (fourteen busy l) f g = absurd (g refl)
-only-16 seven f g = absurd (f refl)
+only-16 : {d : Domain} {act : Act} {a : Answer} → Refusal d act a → isReply act ≡ true → a ≢ NoEntry → isFree (d .call .owner) ≡ true
+only-16 (atStart h) r f = absurd (false≢true r)
+only-16 (sixteen free) r f = free
+only-16 (fourteen busy l) r f = absurd (f refl)
 
-only-16-serving : {g : Guest} {a : Answer} → ServiceRefused g a → a ≢ BadIndex → isServing (g .call .stage) ≡ false
-only-16-serving (sixteenServing free) f = free
-only-16-serving eighteen f = absurd (f refl)
+only-16-serving : {g : Guest} {act : GuestAct} {a : Answer} → guest.Refusal g act a → isGuestReply act ≡ true → isServing (g .call .stage) ≡ false
+only-16-serving guest.fifteen r = absurd (false≢true r)
+only-16-serving (guest.sixteen free) r = free
 
 -- ---- the claims, by what the step did
 
@@ -119,68 +120,68 @@ module _ (n : ℕ) (w : World) where
       world (record { domain = w .domain; guest = o .guest }) (w .ledger) (memoryAfter (w .memory) (listOf access)) ≡ worldWith w (w .domain) g (listOf access ++ listOf (guestAnswer (o .next)))
   guest-keeps o access g e = cc (guest-memory (w .memory) access (o .next))
 
-  refused : {s : Step} {t : Advanced} → Did n w s t → (by : Side) (a : Answer) → Gives by a (stepOf t .events) → isRefusal a ≡ true → a ≢ ending by →
+  refused : {s : Step} {t : Advanced} → Acted n w s t → (by : Side) (a : Answer) → Gives by a (stepOf t .events) → isRefusal a ≡ true → a ≢ ending by →
       stepOf t .world ≡ worldWith w (w .domain) (w .guest) (stepOf t .events)
-  refused (hypervisorDid act access m same reply h none made) by a g r other =
+  refused (byHypervisor act access m same reply h none made) by a g r other =
       let f = hypervisor-given access (turnOf n (w .domain) act .outcome .next) h g in
       hypervisor-keeps act access m (w .domain) _ same made refl (refusals-keep n (w .domain) act a (f .count) (f .same) r (subst (λ (b : Side). a ≢ ending b) (f .side) other))
-  refused (guestDid act access reply h none) by a g r other =
+  refused (byGuest act access reply h none) by a g r other =
       let f = guest-given access (guestTurnOf n (w .guest) act .next) h g in
       guest-keeps (guestTurnOf n (w .guest) act) access (w .guest)
       (ap (λ (o : GuestOutcome). o .guest) (guest-refusals-keep n (w .guest) act a (f .count) (f .same) r (subst (λ (b : Side). a ≢ ending b) (f .side) other)))
-  refused (maskDid {a = b} {count = count} access other reply h none) by a g r kept = guest-keeps (record { guest = w .guest; next = next.Answer b count }) access (w .guest) refl
+  refused (byMask {a = b} {count = count} access other reply h none) by a g r kept = guest-keeps (record { guest = w .guest; next = next.Answer b count }) access (w .guest) refl
 
   -- ---- no access is made
 
-  no-access-made : {s : Step} {t : Advanced} → Did n w s t → (by : Side) (a : Answer) → Gives by a (stepOf t .events) → isRefusal a ≡ true → a ≢ ending by → (isReplyStep s ≡ true → a ≢ NoEntry) →
+  no-access-made : {s : Step} {t : Advanced} → Acted n w s t → (by : Side) (a : Answer) → Gives by a (stepOf t .events) → isRefusal a ≡ true → a ≢ ending by → (isReplyStep s ≡ true → a ≢ NoEntry) →
       t .advance .access ≡ Nothing
-  no-access-made (hypervisorDid act access m same reply h none made) by a g r other entry =
+  no-access-made (byHypervisor act access m same reply h none made) by a g r other entry =
       let f = hypervisor-given access (turnOf n (w .domain) act .outcome .next) h g in
-      none (λ p. only-16 (reply-refused n (w .domain) act p a (f .count) (f .same) r) (subst (λ (b : Side). a ≢ ending b) (f .side) other) (entry (sym reply ∙ p)))
-  no-access-made (guestDid act access reply h none) by a g r other entry =
+      none (λ p. only-16 (why-refused n (w .domain) act a (f .count) (f .same) r (subst (λ (b : Side). a ≢ ending b) (f .side) other)) p (entry (sym reply ∙ p)))
+  no-access-made (byGuest act access reply h none) by a g r other entry =
       let f = guest-given access (guestTurnOf n (w .guest) act .next) h g in
-      none (λ p. only-16-serving (service-refused n (w .guest) act p a (f .count) (f .same) r) (subst (λ (b : Side). a ≢ ending b) (f .side) other))
-  no-access-made (maskDid {a = b} {count = count} access other reply h none) by a g r kept entry =
+      none (only-16-serving (guest-why-refused n (w .guest) act a (f .count) (f .same) r (subst (λ (b : Side). a ≢ ending b) (f .side) other)))
+  no-access-made (byMask {a = b} {count = count} access other reply h none) by a g r kept entry =
       none (ap isRefusal (same-answer (guest-given access (next.Answer b count) h g .same)) ∙ r)
 
-  memory-same : {s : Step} {t : Advanced} → Did n w s t → t .advance .access ≡ Nothing → memoryAfter (w .memory) (stepOf t .events) ≡ w .memory
-  memory-same (hypervisorDid act access m same reply h none made) e = rw e (hypervisor-answer-keeps (turnOf n (w .domain) act .outcome .next) (w .memory))
-  memory-same (guestDid act access reply h none) e = rw e (guest-answer-keeps (guestTurnOf n (w .guest) act .next) (w .memory))
-  memory-same (maskDid access other reply h none) e = rw e
+  memory-same : {s : Step} {t : Advanced} → Acted n w s t → t .advance .access ≡ Nothing → memoryAfter (w .memory) (stepOf t .events) ≡ w .memory
+  memory-same (byHypervisor act access m same reply h none made) e = rw e (hypervisor-answer-keeps (turnOf n (w .domain) act .outcome .next) (w .memory))
+  memory-same (byGuest act access reply h none) e = rw e (guest-answer-keeps (guestTurnOf n (w .guest) act .next) (w .memory))
+  memory-same (byMask access other reply h none) e = rw e
 
-  unchanged : {s : Step} {t : Advanced} → Did n w s t → (by : Side) (a : Answer) → Gives by a (stepOf t .events) → isRefusal a ≡ true → a ≢ ending by → (isReplyStep s ≡ true → a ≢ NoEntry) →
+  unchanged : {s : Step} {t : Advanced} → Acted n w s t → (by : Side) (a : Answer) → Gives by a (stepOf t .events) → isRefusal a ≡ true → a ≢ ending by → (isReplyStep s ≡ true → a ≢ NoEntry) →
       stepOf t .world ≡ w
-  unchanged did by a g r other entry =
-      refused did by a g r other ∙ ap (λ (m : Memory). record { domain = w .domain; ledger = w .ledger; guest = w .guest; memory = m }) (memory-same did (no-access-made did by a g r other entry))
+  unchanged acted by a g r other entry =
+      refused acted by a g r other ∙ ap (λ (m : Memory). record { domain = w .domain; ledger = w .ledger; guest = w .guest; memory = m }) (memory-same acted (no-access-made acted by a g r other entry))
 
   -- ---- 7 and 18
 
-  still-linked : {s : Step} {t : Advanced} → Did n w s t → length (w .domain .tails) ≡ 16 → Gives side.Hypervisor StillLinked (stepOf t .events) →
+  still-linked : {s : Step} {t : Advanced} → Acted n w s t → length (w .domain .tails) ≡ 16 → Gives side.Hypervisor StillLinked (stepOf t .events) →
       (w .domain .call .owner ≡ owner.Bind) × (stepOf t .world ≡ worldWith w (withCall (w .domain) idleCall) (w .guest) (stepOf t .events))
-  still-linked (hypervisorDid act access m same reply h none made) size g =
+  still-linked (byHypervisor act access m same reply h none made) size g =
       let f = hypervisor-given access (turnOf n (w .domain) act .outcome .next) h g in
       let e = still-linked-ends n (w .domain) act (f .count) size (f .same) in
       (e .0, hypervisor-keeps act access m (withCall (w .domain) idleCall) _ same made refl (e .1))
-  still-linked (guestDid act access reply h none) size g = absurd (guest-only (guest-given access (guestTurnOf n (w .guest) act .next) h g .side))
-  still-linked (maskDid {a = a} {count = count} access other reply h none) size g = absurd (guest-only (guest-given access (next.Answer a count) h g .side))
+  still-linked (byGuest act access reply h none) size g = absurd (guest-only (guest-given access (guestTurnOf n (w .guest) act .next) h g .side))
+  still-linked (byMask {a = a} {count = count} access other reply h none) size g = absurd (guest-only (guest-given access (next.Answer a count) h g .side))
 
-  bad-index : {s : Step} {t : Advanced} → Did n w s t → Gives side.Guest BadIndex (stepOf t .events) →
+  bad-index : {s : Step} {t : Advanced} → Acted n w s t → Gives side.Guest BadIndex (stepOf t .events) →
       (seen : ℕ) × ServedQueueCleared (w .guest) seen (stepOf t .world .guest) × (stepOf t .world ≡ worldWith w (w .domain) (stepOf t .world .guest) (stepOf t .events))
-  bad-index (hypervisorDid act access m same reply h none made) g = absurd (guest-only (sym (hypervisor-given access (turnOf n (w .domain) act .outcome .next) h g .side)))
-  bad-index (guestDid act access reply h none) g =
+  bad-index (byHypervisor act access m same reply h none made) g = absurd (guest-only (sym (hypervisor-given access (turnOf n (w .domain) act .outcome .next) h g .side)))
+  bad-index (byGuest act access reply h none) g =
       let f = guest-given access (guestTurnOf n (w .guest) act .next) h g in
       let e = bad-index-ends n (w .guest) act (f .count) (f .same) in
       (e .0, e .2, guest-keeps (guestTurnOf n (w .guest) act) access _ refl)
-  bad-index (maskDid {a = a} {count = count} access other reply h none) g = absurd (other (same-answer (guest-given access (next.Answer a count) h g .same)))
+  bad-index (byMask {a = a} {count = count} access other reply h none) g = absurd (other (same-answer (guest-given access (next.Answer a count) h g .same)))
 
 pub refused-steps-keep : RefusedStepsKeep
-refused-steps-keep n w s = refused n w (did n w s)
+refused-steps-keep n w s = refused n w (acted n w s)
 
 pub refused-steps-change-nothing : RefusedStepsChangeNothing
-refused-steps-change-nothing n w s = unchanged n w (did n w s)
+refused-steps-change-nothing n w s = unchanged n w (acted n w s)
 
 pub still-linked-steps : StillLinkedSteps
-still-linked-steps n w s = still-linked n w (did n w s)
+still-linked-steps n w s = still-linked n w (acted n w s)
 
 pub bad-index-steps : BadIndexSteps
-bad-index-steps n w s = bad-index n w (did n w s)
+bad-index-steps n w s = bad-index n w (acted n w s)

@@ -217,6 +217,23 @@ advanceOf n w (step.HandBack s word) = handBackStep w (handBack n (w .domain) (w
 abbrev pub exec : ℕ → World → Step → Stepped
 exec n w s = stepOf (advanceOf n w s)
 
+-- an access with its reply, or a reply alone
+abbrev pub isReplyStep : Step → Bool
+isReplyStep (step.Hypervisor s) = false
+isReplyStep (step.Guest s) = false
+isReplyStep (step.Perform s) = true
+isReplyStep (step.HandBack s word) = true
+
+-- the memory after events: as the accesses among them leave it
+abbrev pub memoryAfter : Memory → List Event → Memory
+memoryAfter m [] = m
+memoryAfter m (Nothing ∷ es) = memoryAfter m es
+memoryAfter m (HypervisorAccess c a seen ∷ es) = memoryAfter (performed m a .memory) es
+memoryAfter m (GuestAccess c a seen ∷ es) = memoryAfter (performed m a .memory) es
+memoryAfter m (MaskAccess a seen ∷ es) = memoryAfter (performed m a .memory) es
+memoryAfter m (HypervisorAnswer a count ∷ es) = memoryAfter m es
+memoryAfter m (GuestAnswer a count ∷ es) = memoryAfter m es
+
 -- ---- lists of steps
 
 -- the world after a list of steps, and its history: the events in their order
