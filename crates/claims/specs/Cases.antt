@@ -62,7 +62,7 @@ pub record Case : Type 0 where
   pub before : List Step
   pub parts : List Part
 
--- one page will be lent, of any words, and a small ledger
+-- one page will be lent, of words FFFFFFFF, and a small ledger
 abbrev pub caseWorld : World
 caseWorld = record {
   domain = freshDomain;

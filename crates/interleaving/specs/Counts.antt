@@ -1,5 +1,5 @@
--- What the counts in answers mean, on demand 3's terms: the count of an answer that ends a hypervisor's call is the number
--- of accesses that the call made, and no call makes more than 5 accesses and `mostTries`, that is eight.
+-- What the counts in the hypervisor's answers mean, on demand 3's terms: a count that is not 0 is the number of accesses made
+-- since the last such answer, and these are at most 5 + `mostTries`, that is eight.
 -- Assumes nothing.
 use Prim.Native.Nat.{ℕ, zero, suc, _+_, _^_, _≤_}
 use mathlib.Core.Path.{_≡_}
@@ -13,7 +13,7 @@ use Rattle.queue.specs.Budget.{mostTries}
 use Rattle.interleaving.specs.Fresh.{freshWorld}
 use Rattle.interleaving.specs.Rules.{KeepsRules}
 
--- the hypervisor's call under way has made so many accesses; an answer that ends no call counts 0
+-- the hypervisor has made so many accesses since the last answer whose count is not 0; an answer with count 0 is skipped
 abbrev pub Counted : ℕ → List Event → Type 0
 Counted made [] = Unit {0}
 Counted made (Nothing ∷ es) = Counted made es

@@ -1,5 +1,6 @@
--- The one handle by which a proof about concrete words computes: `unfolding computes` opens every definition of
--- the word rules. For the table of cases and for examples; every other proof above this crate uses laws.
+-- The one handle by which a proof about concrete words computes: `unfolding computes` opens every definition of the word
+-- rules. Three proofs above this crate name it: the table of cases, the longest calls, and the example of demand 3. Every
+-- other one uses laws, and opens no definition of this crate.
 -- Assumes nothing.
 use Prim.Native.Nat.{ℕ}
 use lib.Count.{trailingZeros}
