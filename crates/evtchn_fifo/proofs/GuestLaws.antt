@@ -1,7 +1,7 @@
 -- A guest's record in bytes: what a call writes, decoded.
 -- Assumes nothing.
 use Prim.Native.Nat.{ℕ, _+_}
-use mathlib.Core.Path.{_≡_, refl, _∙_}
+use mathlib.Core.Path.{_≡_, refl, ap, _∙_}
 use mathlib.Core.Bool.{Bool, true, false, not}
 use mathlib.Core.List.{List}
 use lib.ListN.{length, set}
@@ -12,11 +12,17 @@ use Rattle.calls.specs.declared.types.GuestStage.{GuestStage}
 use Rattle.calls.specs.declared.types.GuestStage.the-variants.{None, G0, G1, G2, G3, G4}
 use Rattle.calls.specs.declared.types.GuestCall.{GuestCall}
 use Rattle.calls.specs.declared.types.Guest.{Guest}
+use Rattle.calls.specs.declared.types.GuestOutcome.{GuestOutcome}
+use Rattle.calls.specs.declared.types.Access.{Access}
 use Rattle.calls.specs.declared.types.Answer.{Answer}
+use Rattle.calls.specs.declared.types.Answer.the-variants.{Done, CallUnderWay}
+use Rattle.calls.specs.declared.types.Next.the-variants as next
+use Rattle.calls.specs.Records.{guestCallAt}
+use Rattle.word.specs.Word.{portAt, queueAt}
 use Rattle.calls.specs.declared.guest.GuestMove.{GuestMove}
-use Rattle.calls.specs.Guest.{isServing, guestStagedAt, guestStaged, guestMoved, guestNext, withGuestCall, withWords}
+use Rattle.calls.specs.Guest.{isServing, guestStagedAt, guestStaged, guestMoved, guestNext, withGuestCall, withWords, serviceStart}
 use Rattle.evtchn_fifo.specs.Numbers.{numberAt, putNumber, numbersAt, putValue, putValues}
-use Rattle.evtchn_fifo.specs.Encoded.{encodedNext}
+use Rattle.evtchn_fifo.specs.Encoded.{encodedNext, encodedAccess}
 use Rattle.evtchn_fifo.specs.GuestRecord.{guestStageCode, guestStageOf, serviceAt, guestAt, putService, putGuestMove, putGuest}
 use Rattle.evtchn_fifo.specs.Guest.{serviceNextAt, headFor}
 use Rattle.evtchn_fifo.proofs.NumberLaws.{length-put, before, after, read-back, kept-before, kept-after, numbers-kept, values-set, value-after, length-puts, sixteen-back}
@@ -143,3 +149,18 @@ next-by n g a k false e = rw e
 
 pub service-next : (n : ℕ) (g : Guest) (a : Answer) (k : ℕ) → serviceNextAt n (g .call) a k ≡ encodedNext (guestNext n g a k)
 service-next n g a k = next-by n g a k (not (isServing (g .call .stage))) refl
+
+-- a service that starts names the access that its call waits for
+begun-by : (n : ℕ) (g : Guest) (x : Access) (b : Bool) → isServing (g .call .stage) ≡ b → serviceStart n g .next ≡ next.Access x → serviceNextAt n (serviceStart n g .guest .call) Done 0 ≡ encodedAccess x
+unfolding serviceStart encodedNext
+begun-by n g x true e h =
+    let z : next.Answer CallUnderWay 0 ≡ next.Access x = rw e at h in
+    let f : _≡_ {A = ℕ} 0 1 = cc in
+    absurd (omega arith)
+begun-by n g x false e h =
+    let d = withGuestCall g (guestCallAt G0 (portAt 0) (queueAt 0) 1) in
+    let z : guestNext n d Done 0 ≡ next.Access x = rw e at h in
+    rw e (service-next n d Done 0 ∙ ap encodedNext z)
+
+pub service-begun : (n : ℕ) (g : Guest) (o : GuestOutcome) (x : Access) → o ≡ serviceStart n g → o .next ≡ next.Access x → serviceNextAt n (o .guest .call) Done 0 ≡ encodedAccess x
+service-begun n g o x e h = rw e (begun-by n g x (isServing (g .call .stage)) refl (rw e at h))

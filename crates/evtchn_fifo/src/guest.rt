@@ -62,9 +62,11 @@ pub extern "C" fn evtchn_fifo_service(guest: &mut [u8]) -> EncodedNext
     let next = outcome.next;
     match next {
         Next::Answer(answer, count) => encoded::encoded_answer(answer, count),
-        Next::Access(access) => {
+        // It is the one that the call waits for; named by the call, it need not be kept.
+        Next::Access(_named) => {
+            let first = service_next_at(call, Answer::Done, 0);
             guest_record::put_service(guest, call);
-            encoded::encoded_access(access)
+            first
         }
     }
 }

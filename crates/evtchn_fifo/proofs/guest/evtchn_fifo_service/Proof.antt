@@ -1,6 +1,7 @@
 -- `evtchn_fifo::guest::evtchn_fifo_service` meets its contract. Assumes nothing.
-use Rattle.evtchn_fifo.specs.Guest.{serviceBytes}
 use borrow.Author.Needs.{needs}
+use Rattle.evtchn_fifo.specs.Guest.{serviceBytes}
+use Rattle.evtchn_fifo.proofs.GuestLaws.{service-begun}
 use Rattle.evtchn_fifo.proofs.guest.evtchn_fifo_service.Statement.{statement}
 use Rattle.evtchn_fifo.proofs.guest.evtchn_fifo_service.Tie as tie
 
@@ -29,11 +30,11 @@ encoded-answer-requires c κs = search needs
 enum-known-next-2 : tie.Need-enum-known-next-2
 enum-known-next-2 c = search needs
 
+service-next-at-requires : tie.Need-service-next-at-requires
+service-next-at-requires c κs = search needs
+
 put-service-requires : tie.Need-put-service-requires
 put-service-requires c κs = search needs
-
-encoded-access-requires : tie.Need-encoded-access-requires
-encoded-access-requires c κs = search needs
 
 same-length : tie.Need-same-length
 same-length c = search needs
@@ -47,7 +48,7 @@ same-length-2 c = search needs
 
 returns-3 : tie.Need-returns-3
 unfolding serviceBytes
-returns-3 c = simp (← (c .encoded-access .ensures), ← (c .before .before .before .put-service .ensures), c .before .before .before .before .before .before .next2 .given .1, c .before .before .before .before .before .before .before .match .keys2, ← (c .before .before .before .before .before .before .before .before .before .before .service .ensures), ← (c .before .before .before .before .before .before .before .before .before .before .before .without-heads .ensures), ← (c .before .before .before .before .before .before .before .before .before .before .before .before .service-at .ensures), c .before .before .before .before .before .before .before .before .before .before .before .before .before .before .if1 .left)
+returns-3 c = simp (c .before .before .put-service .ensures, c .before .before .before .before .service-next-at .ensures, service-begun _ _ _ _ (c .before .before .before .before .before .before .before .before .before .before .service .ensures) (c .before .before .before .before .before .before .next2 .given .1), c .before .before .before .before .before .before .next2 .given .1, c .before .before .before .before .before .before .before .match .keys2, ← (c .before .before .before .before .before .before .before .before .before .before .service .ensures), ← (c .before .before .before .before .before .before .before .before .before .before .before .without-heads .ensures), ← (c .before .before .before .before .before .before .before .before .before .before .before .before .service-at .ensures), c .before .before .before .before .before .before .before .before .before .before .before .before .before .before .if1 .left)
 
 pub evtchn-fifo-service-spec : {M : Type 1} → statement M
 evtchn-fifo-service-spec =
@@ -61,8 +62,8 @@ evtchn-fifo-service-spec =
     enum-known-next
     encoded-answer-requires
     enum-known-next-2
+    service-next-at-requires
     put-service-requires
-    encoded-access-requires
     same-length
     returns-2
     same-length-2
