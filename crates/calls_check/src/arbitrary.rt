@@ -162,7 +162,7 @@ fn a5_10_owner() -> bool {
     )
 }
 
-pub fn run(tests: u32) -> u32 {
+pub(crate) fn run(tests: u32) -> u32 {
     let tests = report(tests, b"A5.2 queue of a raise", a5_2_queue());
     let tests = report(tests, b"A5.2 queue of a service", a5_2_service());
     let tests = report(tests, b"A5.2 tries", a5_2_tries());

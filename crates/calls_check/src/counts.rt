@@ -157,7 +157,7 @@ fn a2_6() -> bool {
     all3(nine(raising), nine(unmasking), nine(short))
 }
 
-pub fn run(tests: u32) -> u32 {
+pub(crate) fn run(tests: u32) -> u32 {
     let tests = report(tests, b"A2.1", a2_1());
     let tests = report(tests, b"A2.2", a2_2());
     let tests = report(tests, b"A2.3", a2_3());

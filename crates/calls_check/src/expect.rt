@@ -11,31 +11,31 @@ use calls::types::Stage;
 use word::Port;
 use word::Queue;
 
-pub fn both(a: bool, b: bool) -> bool {
+pub(crate) fn both(a: bool, b: bool) -> bool {
     a && b
 }
 
-pub fn all3(a: bool, b: bool, c: bool) -> bool {
+pub(crate) fn all3(a: bool, b: bool, c: bool) -> bool {
     a && b && c
 }
 
-pub fn all4(a: bool, b: bool, c: bool, d: bool) -> bool {
+pub(crate) fn all4(a: bool, b: bool, c: bool, d: bool) -> bool {
     a && b && c && d
 }
 
-pub fn all5(a: bool, b: bool, c: bool, d: bool, e: bool) -> bool {
+pub(crate) fn all5(a: bool, b: bool, c: bool, d: bool, e: bool) -> bool {
     a && b && c && d && e
 }
 
-pub fn all6(a: bool, b: bool, c: bool, d: bool, e: bool, f: bool) -> bool {
+pub(crate) fn all6(a: bool, b: bool, c: bool, d: bool, e: bool, f: bool) -> bool {
     a && b && c && d && e && f
 }
 
-pub fn word_at(port: u32) -> Place {
+pub(crate) fn word_at(port: u32) -> Place {
     Place::Word(Port(port))
 }
 
-pub fn head_at(queue: u32) -> Place {
+pub(crate) fn head_at(queue: u32) -> Place {
     Place::Head(Queue(queue))
 }
 
@@ -102,7 +102,7 @@ fn same_access(a: Access, b: Access) -> bool {
 }
 
 // Whether an access was named, and it is this one.
-pub fn named(next: Next, access: Access) -> bool {
+pub(crate) fn named(next: Next, access: Access) -> bool {
     match next {
         Next::Access(found) => same_access(found, access),
         Next::Answer(_, _) => false,
@@ -110,7 +110,7 @@ pub fn named(next: Next, access: Access) -> bool {
 }
 
 // Whether an answer was given with this number, value and count.
-pub fn gave(next: Next, number: u32, value: u32, count: u32) -> bool {
+pub(crate) fn gave(next: Next, number: u32, value: u32, count: u32) -> bool {
     match next {
         Next::Access(_) => false,
         Next::Answer(answer, n) => {
@@ -121,7 +121,7 @@ pub fn gave(next: Next, number: u32, value: u32, count: u32) -> bool {
 }
 
 // Whether the access was named and is what the record waits for.
-pub fn names(s: State, access: Access) -> bool {
+pub(crate) fn names(s: State, access: Access) -> bool {
     let next = s.next;
     let domain = s.domain;
     let due = calls::hypervisor::due(domain);
@@ -136,12 +136,12 @@ fn is_free(s: State) -> bool {
 }
 
 // Whether an answer without a value was given that ends any call under way.
-pub fn answers(s: State, number: u32, count: u32) -> bool {
+pub(crate) fn answers(s: State, number: u32, count: u32) -> bool {
     let next = s.next;
     both(gave(next, number, 0, count), is_free(s))
 }
 
-pub fn entry_is(s: State, port: usize, entry: u16) -> bool {
+pub(crate) fn entry_is(s: State, port: usize, entry: u16) -> bool {
     let ledger = s.ledger;
     if port < 16 {
         return ledger[port] == entry;
@@ -149,13 +149,13 @@ pub fn entry_is(s: State, port: usize, entry: u16) -> bool {
     false
 }
 
-pub fn tail_is(s: State, queue: u32, tail: u32) -> bool {
+pub(crate) fn tail_is(s: State, queue: u32, tail: u32) -> bool {
     let domain = s.domain;
     let tails = domain.tails;
     records::at_queue(tails, Queue(queue)) == tail
 }
 
-pub fn count_is(s: State, count: u32) -> bool {
+pub(crate) fn count_is(s: State, count: u32) -> bool {
     let domain = s.domain;
     let call = domain.call;
     call.count == count
@@ -220,7 +220,7 @@ fn same_four(a: [u32; 16], b: [u32; 16], first: usize) -> bool {
     false
 }
 
-pub fn same_queues(a: [u32; 16], b: [u32; 16]) -> bool {
+pub(crate) fn same_queues(a: [u32; 16], b: [u32; 16]) -> bool {
     all4(
         same_four(a, b, 0),
         same_four(a, b, 4),
@@ -250,7 +250,7 @@ fn same_ledger(a: [u16; 16], b: [u16; 16]) -> bool {
     )
 }
 
-pub fn same_domain(a: Domain, b: Domain) -> bool {
+pub(crate) fn same_domain(a: Domain, b: Domain) -> bool {
     let x = a.tails;
     let y = b.tails;
     let c = a.call;
@@ -264,7 +264,7 @@ pub fn same_domain(a: Domain, b: Domain) -> bool {
 }
 
 // Whether two states have the same record and ledger.
-pub fn same(a: State, b: State) -> bool {
+pub(crate) fn same(a: State, b: State) -> bool {
     let x = a.domain;
     let y = b.domain;
     let e = a.ledger;
@@ -273,7 +273,7 @@ pub fn same(a: State, b: State) -> bool {
 }
 
 // Whether a call was refused: nothing changed, and nothing is counted.
-pub fn refused(before: State, after: State, number: u32) -> bool {
+pub(crate) fn refused(before: State, after: State, number: u32) -> bool {
     let next = after.next;
     both(gave(next, number, 0, 0), same(before, after))
 }

@@ -15,13 +15,13 @@ use calls::types::GuestStage;
 use calls::types::Next;
 use word::Queue;
 
-pub struct GuestState {
+pub(crate) struct GuestState {
     pub guest: Guest,
     pub next: Next,
 }
 
 // A guest with her words, local ready bits and one head.
-pub fn guest(words: u32, local: u32, queue: u32, head: u32) -> GuestState {
+pub(crate) fn guest(words: u32, local: u32, queue: u32, head: u32) -> GuestState {
     let fresh = records::fresh_guest();
     let call = fresh.call;
     let heads = records::with_queue([0; 16], Queue(queue), head);
@@ -37,7 +37,7 @@ pub fn guest(words: u32, local: u32, queue: u32, head: u32) -> GuestState {
     }
 }
 
-pub fn with_guest_call(g: GuestState, call: GuestCall) -> GuestState {
+pub(crate) fn with_guest_call(g: GuestState, call: GuestCall) -> GuestState {
     let guest = g.guest;
     let heads = guest.heads;
     let next = g.next;
@@ -62,23 +62,23 @@ fn after(outcome: GuestOutcome) -> GuestState {
     }
 }
 
-pub fn service(g: GuestState) -> GuestState {
+pub(crate) fn service(g: GuestState) -> GuestState {
     let guest = g.guest;
     after(calls::guest::service(guest))
 }
 
-pub fn service_reply(g: GuestState, seen: u32) -> GuestState {
+pub(crate) fn service_reply(g: GuestState, seen: u32) -> GuestState {
     let guest = g.guest;
     after(calls::guest::service_reply(guest, seen))
 }
 
-pub fn tell(g: GuestState, words: u32) -> GuestState {
+pub(crate) fn tell(g: GuestState, words: u32) -> GuestState {
     let guest = g.guest;
     after(calls::guest::tell(guest, words))
 }
 
 // Whether the access was named and is what the record waits for.
-pub fn service_names(g: GuestState, access: Access) -> bool {
+pub(crate) fn service_names(g: GuestState, access: Access) -> bool {
     let next = g.next;
     let guest = g.guest;
     let due = calls::guest::service_due(guest);
@@ -104,23 +104,23 @@ fn is_idle(g: GuestState) -> bool {
 }
 
 // Whether an answer was given that ends the service.
-pub fn service_gave(g: GuestState, number: u32, value: u32, count: u32) -> bool {
+pub(crate) fn service_gave(g: GuestState, number: u32, value: u32, count: u32) -> bool {
     let next = g.next;
     both(gave(next, number, value, count), is_idle(g))
 }
 
-pub fn head_is(g: GuestState, queue: u32, head: u32) -> bool {
+pub(crate) fn head_is(g: GuestState, queue: u32, head: u32) -> bool {
     let guest = g.guest;
     let heads = guest.heads;
     records::at_queue(heads, Queue(queue)) == head
 }
 
-pub fn local_is(g: GuestState, local: u32) -> bool {
+pub(crate) fn local_is(g: GuestState, local: u32) -> bool {
     let guest = g.guest;
     guest.ready == local
 }
 
-pub fn words_are(g: GuestState, words: u32) -> bool {
+pub(crate) fn words_are(g: GuestState, words: u32) -> bool {
     let guest = g.guest;
     guest.words == words
 }
@@ -141,7 +141,7 @@ fn same_guest_call(a: GuestCall, b: GuestCall) -> bool {
 }
 
 // Whether two guests have the same heads, local bits and call under way.
-pub fn same_service(a: GuestState, b: GuestState) -> bool {
+pub(crate) fn same_service(a: GuestState, b: GuestState) -> bool {
     let x = a.guest;
     let y = b.guest;
     let h = x.heads;
@@ -152,7 +152,7 @@ pub fn same_service(a: GuestState, b: GuestState) -> bool {
 }
 
 // Whether a call was refused: nothing changed, and nothing is counted.
-pub fn service_refused(before: GuestState, after: GuestState, number: u32) -> bool {
+pub(crate) fn service_refused(before: GuestState, after: GuestState, number: u32) -> bool {
     let next = after.next;
     let x = before.guest;
     let y = after.guest;

@@ -147,7 +147,7 @@ fn a4_9() -> bool {
     )
 }
 
-pub fn run(tests: u32) -> u32 {
+pub(crate) fn run(tests: u32) -> u32 {
     let tests = report(tests, b"A4.1", a4_1());
     let tests = report(tests, b"A4.2", a4_2());
     let tests = report(tests, b"A4.3", a4_3());

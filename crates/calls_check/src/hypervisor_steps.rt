@@ -267,7 +267,7 @@ fn run_links(tests: u32) -> u32 {
     report(tests, b"A3.16", a3_16())
 }
 
-pub fn run(tests: u32) -> u32 {
+pub(crate) fn run(tests: u32) -> u32 {
     let tests = report(tests, b"A3.1", a3_1());
     let tests = report(tests, b"A3.2", a3_2());
     let tests = report(tests, b"A3.3", a3_3());

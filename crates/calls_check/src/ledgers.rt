@@ -117,7 +117,7 @@ fn a5_1() -> bool {
     many_pages(&mut ledger)
 }
 
-pub fn run(tests: u32) -> u32 {
+pub(crate) fn run(tests: u32) -> u32 {
     let tests = report(tests, b"A1.2", a1_2());
     let tests = report(tests, b"A1.8", a1_8());
     let tests = report(tests, b"A1.9", a1_9());

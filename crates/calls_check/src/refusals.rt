@@ -194,7 +194,7 @@ fn run_first(tests: u32) -> u32 {
     report(tests, b"A1.7", a1_7())
 }
 
-pub fn run(tests: u32) -> u32 {
+pub(crate) fn run(tests: u32) -> u32 {
     let tests = run_first(tests);
     let tests = report(tests, b"A1.10", a1_10());
     let tests = report(tests, b"A1.11", a1_11());

@@ -1,5 +1,5 @@
 // The line of a test, and the number of tests.
-pub fn report(tests: u32, name: &[u8], ok: bool) -> u32 {
+pub(crate) fn report(tests: u32, name: &[u8], ok: bool) -> u32 {
     io::write_all(1, name);
     if ok {
         io::write_all(1, b" ok\n");
@@ -9,7 +9,7 @@ pub fn report(tests: u32, name: &[u8], ok: bool) -> u32 {
     calls::records::one_more(tests)
 }
 
-pub fn total(tests: u32) {
+pub(crate) fn total(tests: u32) {
     io::print_decimal(1, tests as u64);
     io::write_all(1, b" tests\n");
 }

@@ -41,7 +41,7 @@ use calls::types::Stage;
 use word::Port;
 
 // With a raise at R6 under way.
-pub fn busy(s: State) -> State {
+pub(crate) fn busy(s: State) -> State {
     with_call(s, raising(Stage::R6, 7, 0, 0, 4))
 }
 
@@ -197,14 +197,14 @@ fn service_row() -> bool {
     )
 }
 
-pub fn mask_refused(port: u32, words: u32, number: u32) -> bool {
+pub(crate) fn mask_refused(port: u32, words: u32, number: u32) -> bool {
     match calls::guest::mask(Port(port), words) {
         Masking::Made(_, _, _) => false,
         Masking::Refused(answer, count) => gave(Next::Answer(answer, count), number, 0, 0),
     }
 }
 
-pub fn mask_made(port: u32, words: u32) -> bool {
+pub(crate) fn mask_made(port: u32, words: u32) -> bool {
     match calls::guest::mask(Port(port), words) {
         Masking::Refused(_, _) => false,
         Masking::Made(access, answer, count) => {
@@ -235,7 +235,7 @@ fn run_starts(tests: u32) -> u32 {
     report(tests, b"A1 set_priority", priority_row())
 }
 
-pub fn run(tests: u32) -> u32 {
+pub(crate) fn run(tests: u32) -> u32 {
     let tests = run_starts(tests);
     let tests = report(tests, b"A1 raise", raise_row());
     let tests = report(tests, b"A1 unmask", unmask_row());

@@ -11,13 +11,13 @@ use word::Port;
 use word::Priority;
 use word::Queue;
 
-pub struct State {
+pub(crate) struct State {
     pub domain: Domain,
     pub ledger: [u16; 16],
     pub next: Next,
 }
 
-pub fn fresh() -> State {
+pub(crate) fn fresh() -> State {
     let domain = records::fresh_domain();
     State {
         domain: domain,
@@ -26,7 +26,7 @@ pub fn fresh() -> State {
     }
 }
 
-pub fn with_domain(s: State, domain: Domain) -> State {
+pub(crate) fn with_domain(s: State, domain: Domain) -> State {
     let ledger = s.ledger;
     let next = s.next;
     State {
@@ -36,7 +36,7 @@ pub fn with_domain(s: State, domain: Domain) -> State {
     }
 }
 
-pub fn with_given(s: State, given: bool, pages: u32) -> State {
+pub(crate) fn with_given(s: State, given: bool, pages: u32) -> State {
     let domain = s.domain;
     let tails = domain.tails;
     let call = domain.call;
@@ -50,11 +50,11 @@ pub fn with_given(s: State, given: bool, pages: u32) -> State {
 }
 
 // The control block given, and an array of so many pages.
-pub fn begun(pages: u32) -> State {
+pub(crate) fn begun(pages: u32) -> State {
     with_given(fresh(), true, pages)
 }
 
-pub fn with_tail(s: State, queue: u32, tail: u32) -> State {
+pub(crate) fn with_tail(s: State, queue: u32, tail: u32) -> State {
     let domain = s.domain;
     let tails = domain.tails;
     let call = domain.call;
@@ -68,14 +68,14 @@ pub fn with_tail(s: State, queue: u32, tail: u32) -> State {
     with_domain(s, changed)
 }
 
-pub fn with_call(s: State, call: Call) -> State {
+pub(crate) fn with_call(s: State, call: Call) -> State {
     let domain = s.domain;
     let changed = records::with_call(domain, call);
     with_domain(s, changed)
 }
 
 // A raise of port 5 under way at a stage.
-pub fn raising(stage: Stage, queue: u32, word: u32, tries: u32, count: u32) -> Call {
+pub(crate) fn raising(stage: Stage, queue: u32, word: u32, tries: u32, count: u32) -> Call {
     Call {
         owner: Owner::Raise,
         stage: stage,
@@ -87,7 +87,7 @@ pub fn raising(stage: Stage, queue: u32, word: u32, tries: u32, count: u32) -> C
     }
 }
 
-pub fn with_entry(s: State, port: usize, entry: u16) -> State {
+pub(crate) fn with_entry(s: State, port: usize, entry: u16) -> State {
     let domain = s.domain;
     let next = s.next;
     let mut ledger = s.ledger;
@@ -102,7 +102,7 @@ pub fn with_entry(s: State, port: usize, entry: u16) -> State {
 }
 
 // One page, and a port bound at priority 7.
-pub fn bound(port: usize) -> State {
+pub(crate) fn bound(port: usize) -> State {
     with_entry(begun(1), port, 0x0107)
 }
 
@@ -116,35 +116,35 @@ fn after(outcome: Outcome, ledger: [u16; 16]) -> State {
     }
 }
 
-pub fn init(s: State, vcpu: u32, frame: u64, frames: u64, offset: u32) -> State {
+pub(crate) fn init(s: State, vcpu: u32, frame: u64, frames: u64, offset: u32) -> State {
     let domain = s.domain;
     let ledger = s.ledger;
     let outcome = calls::hypervisor::init_control(domain, vcpu, frame, frames, offset);
     after(outcome, ledger)
 }
 
-pub fn expand(s: State, frame: u64, frames: u64) -> State {
+pub(crate) fn expand(s: State, frame: u64, frames: u64) -> State {
     let domain = s.domain;
     let ledger = s.ledger;
     let outcome = calls::hypervisor::expand_array(domain, frame, frames);
     after(outcome, ledger)
 }
 
-pub fn bind(s: State, port: u32) -> State {
+pub(crate) fn bind(s: State, port: u32) -> State {
     let domain = s.domain;
     let mut ledger = s.ledger;
     let outcome = calls::hypervisor::bind(domain, &mut ledger, Port(port));
     after(outcome, ledger)
 }
 
-pub fn close(s: State, port: u32) -> State {
+pub(crate) fn close(s: State, port: u32) -> State {
     let domain = s.domain;
     let mut ledger = s.ledger;
     let outcome = calls::hypervisor::close(domain, &mut ledger, Port(port));
     after(outcome, ledger)
 }
 
-pub fn prioritize(s: State, port: u32, priority: u32) -> State {
+pub(crate) fn prioritize(s: State, port: u32, priority: u32) -> State {
     let domain = s.domain;
     let mut ledger = s.ledger;
     let outcome = calls::hypervisor::set_priority(
@@ -156,21 +156,21 @@ pub fn prioritize(s: State, port: u32, priority: u32) -> State {
     after(outcome, ledger)
 }
 
-pub fn raise(s: State, port: u32) -> State {
+pub(crate) fn raise(s: State, port: u32) -> State {
     let domain = s.domain;
     let mut ledger = s.ledger;
     let outcome = calls::hypervisor::raise(domain, &mut ledger, Port(port));
     after(outcome, ledger)
 }
 
-pub fn unmask(s: State, port: u32) -> State {
+pub(crate) fn unmask(s: State, port: u32) -> State {
     let domain = s.domain;
     let mut ledger = s.ledger;
     let outcome = calls::hypervisor::unmask(domain, &mut ledger, Port(port));
     after(outcome, ledger)
 }
 
-pub fn reply(s: State, seen: u32) -> State {
+pub(crate) fn reply(s: State, seen: u32) -> State {
     let domain = s.domain;
     let mut ledger = s.ledger;
     let outcome = calls::hypervisor::reply(domain, &mut ledger, seen);
@@ -178,7 +178,7 @@ pub fn reply(s: State, seen: u32) -> State {
 }
 
 // A reply with a ledger of one entry.
-pub fn reply_short(s: State, seen: u32) -> State {
+pub(crate) fn reply_short(s: State, seen: u32) -> State {
     let domain = s.domain;
     let ledger = s.ledger;
     let mut short = [7u16; 1];

@@ -16,14 +16,14 @@ use machine::types::Start;
 use machine::types::Step;
 
 // A run: the records between steps, and the counts of the answers printed so far.
-pub struct Run {
+pub(crate) struct Run {
     pub sides: Sides,
     pub counts: [u32; 256],
     pub answers: usize,
 }
 
 // Fresh records, after a title and the log's header.
-pub fn fresh(title: &[u8]) -> Run {
+pub(crate) fn fresh(title: &[u8]) -> Run {
     io::write_all(1, title);
     print_line(Line::Header);
     let domain = calls::records::fresh_domain();
@@ -40,13 +40,13 @@ pub fn fresh(title: &[u8]) -> Run {
 }
 
 // The summary line of a run.
-pub fn end(run: Run) {
+pub(crate) fn end(run: Run) {
     let counts = run.counts;
     print_counts(counts, run.answers);
 }
 
 // The run with other records.
-pub fn with_sides(run: Run, sides: Sides) -> Run {
+pub(crate) fn with_sides(run: Run, sides: Sides) -> Run {
     let counts = run.counts;
     Run {
         sides: sides,
@@ -115,7 +115,7 @@ fn step(run: Run, ledger: &mut [u16], words: &mut [u32], block: &mut [u32], step
 }
 
 // A hypervisor's call starts.
-pub fn start(
+pub(crate) fn start(
     run: Run,
     ledger: &mut [u16],
     words: &mut [u32],
@@ -126,7 +126,7 @@ pub fn start(
 }
 
 // A service starts, or a mask is made.
-pub fn guest_start(
+pub(crate) fn guest_start(
     run: Run,
     ledger: &mut [u16],
     words: &mut [u32],
@@ -137,7 +137,13 @@ pub fn guest_start(
 }
 
 // A tell, which has no line.
-pub fn tell(run: Run, ledger: &mut [u16], words: &mut [u32], block: &mut [u32], told: u32) -> Run {
+pub(crate) fn tell(
+    run: Run,
+    ledger: &mut [u16],
+    words: &mut [u32],
+    block: &mut [u32],
+    told: u32,
+) -> Run {
     let sides = run.sides;
     let call = Step::Guest(GuestStart::Tell(told));
     let advance = machine::step::advance(sides, ledger, words, block, call);
@@ -146,7 +152,7 @@ pub fn tell(run: Run, ledger: &mut [u16], words: &mut [u32], block: &mut [u32], 
 }
 
 // The access that a side waits for, with its reply.
-pub fn perform(
+pub(crate) fn perform(
     run: Run,
     ledger: &mut [u16],
     words: &mut [u32],
@@ -217,7 +223,7 @@ fn go_on_eight_times(
 }
 
 // A side's accesses until its answer; a call has nine at most.
-pub fn finish(
+pub(crate) fn finish(
     run: Run,
     ledger: &mut [u16],
     words: &mut [u32],
@@ -229,7 +235,7 @@ pub fn finish(
 }
 
 // A whole call of the hypervisor.
-pub fn call(
+pub(crate) fn call(
     run: Run,
     ledger: &mut [u16],
     words: &mut [u32],
@@ -241,13 +247,13 @@ pub fn call(
 }
 
 // A whole service.
-pub fn service(run: Run, ledger: &mut [u16], words: &mut [u32], block: &mut [u32]) -> Run {
+pub(crate) fn service(run: Run, ledger: &mut [u16], words: &mut [u32], block: &mut [u32]) -> Run {
     let begun = guest_start(run, ledger, words, block, GuestStart::Service);
     finish(begun, ledger, words, block, Side::Guest)
 }
 
 // A reply with any word; its access is in the log, and is not made.
-pub fn hand_back(run: Run, ledger: &mut [u16], side: Side, word: u32) -> Run {
+pub(crate) fn hand_back(run: Run, ledger: &mut [u16], side: Side, word: u32) -> Run {
     let sides = run.sides;
     let next = due(sides, side);
     let advance = machine::step::hand_back(sides, ledger, side, word);
@@ -276,7 +282,12 @@ fn word_seen(access: Event) -> u32 {
 
 // The hypervisor's access with a ledger of one entry in its reply, which 14 refuses; then the same word with the whole
 // ledger.
-pub fn perform_twice(run: Run, ledger: &mut [u16], words: &mut [u32], block: &mut [u32]) -> Run {
+pub(crate) fn perform_twice(
+    run: Run,
+    ledger: &mut [u16],
+    words: &mut [u32],
+    block: &mut [u32],
+) -> Run {
     let sides = run.sides;
     let hypervisor = Side::Hypervisor;
     let mut short = [7u16; 1];

@@ -129,7 +129,7 @@ fn last_page() {
     large(&mut ledger, &mut words, &mut block);
 }
 
-pub fn print_all() {
+pub(crate) fn print_all() {
     offsets();
     priorities();
     last_page();

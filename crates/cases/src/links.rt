@@ -122,7 +122,7 @@ fn saturated() {
     world::end(w);
 }
 
-pub fn print_all() {
+pub(crate) fn print_all() {
     r3_unlinked();
     changed_words();
     fourth_unlinked();

@@ -108,7 +108,7 @@ fn not_given() {
     world::end(w);
 }
 
-pub fn print_all() {
+pub(crate) fn print_all() {
     no_entry_first();
     no_entry_then();
     outside();

@@ -139,7 +139,7 @@ fn saturated() {
     world::end(w);
 }
 
-pub fn print_all() {
+pub(crate) fn print_all() {
     g3_masked();
     g4_not_pending();
     head_zero();

@@ -7,7 +7,7 @@ use machine::types::Start;
 use word::Port;
 
 // The control block given, one page, and the guest told.
-pub fn begun(title: &[u8]) -> World {
+pub(crate) fn begun(title: &[u8]) -> World {
     let w = world::fresh(title);
     let w = world::call(w, Start::InitControl(0, 1, 8, 0));
     let w = world::call(w, Start::ExpandArray(2, 8));
@@ -28,12 +28,12 @@ fn c3(w: World) -> World {
     world::raise(w, 5)
 }
 
-pub fn after_c1(title: &[u8]) -> World {
+pub(crate) fn after_c1(title: &[u8]) -> World {
     let w = begun(title);
     c1(w)
 }
 
-pub fn after_c2(title: &[u8]) -> World {
+pub(crate) fn after_c2(title: &[u8]) -> World {
     let w = after_c1(title);
     c2(w)
 }
@@ -44,7 +44,7 @@ fn after_c4(title: &[u8]) -> World {
     world::service(w)
 }
 
-pub fn after_c5(title: &[u8]) -> World {
+pub(crate) fn after_c5(title: &[u8]) -> World {
     let w = after_c4(title);
     world::service(w)
 }
@@ -56,7 +56,7 @@ fn after_c7(title: &[u8]) -> World {
 }
 
 // C1, port 9 bound, and its raise as far as R2.
-pub fn at_r3(title: &[u8]) -> World {
+pub(crate) fn at_r3(title: &[u8]) -> World {
     let w = after_c1(title);
     let w = world::bind(w, 9);
     let w = world::start(w, Start::Raise(Port(9)));
@@ -65,7 +65,7 @@ pub fn at_r3(title: &[u8]) -> World {
 }
 
 // The same and R3: word 5 was A0000000.
-pub fn at_r4(title: &[u8]) -> World {
+pub(crate) fn at_r4(title: &[u8]) -> World {
     let w = at_r3(title);
     world::perform(w, Side::Hypervisor)
 }
@@ -144,7 +144,7 @@ fn c12() {
     world::end(w);
 }
 
-pub fn print_all() {
+pub(crate) fn print_all() {
     first_three();
     next_four();
     let w = begun(b"C8\n");

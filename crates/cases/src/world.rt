@@ -8,7 +8,7 @@ use machine::types::Start;
 use word::Port;
 use word::Priority;
 
-pub struct World {
+pub(crate) struct World {
     pub run: Run,
     pub ledger: [u16; 2048],
     pub words: [u32; 2048],
@@ -16,7 +16,7 @@ pub struct World {
 }
 
 // A fresh world, after a title and the log's header.
-pub fn fresh(title: &[u8]) -> World {
+pub(crate) fn fresh(title: &[u8]) -> World {
     let run = driver::fresh(title);
     World {
         run: run,
@@ -27,13 +27,13 @@ pub fn fresh(title: &[u8]) -> World {
 }
 
 // The summary line.
-pub fn end(w: World) {
+pub(crate) fn end(w: World) {
     let run = w.run;
     driver::end(run);
 }
 
 // The world with other records.
-pub fn with_sides(w: World, sides: Sides) -> World {
+pub(crate) fn with_sides(w: World, sides: Sides) -> World {
     let run = w.run;
     let changed = driver::with_sides(run, sides);
     let ledger = w.ledger;
@@ -48,7 +48,7 @@ pub fn with_sides(w: World, sides: Sides) -> World {
 }
 
 // A hypervisor's call starts.
-pub fn start(w: World, call: Start) -> World {
+pub(crate) fn start(w: World, call: Start) -> World {
     let run = w.run;
     let mut ledger = w.ledger;
     let mut words = w.words;
@@ -63,7 +63,7 @@ pub fn start(w: World, call: Start) -> World {
 }
 
 // A whole call of the hypervisor.
-pub fn call(w: World, call: Start) -> World {
+pub(crate) fn call(w: World, call: Start) -> World {
     let run = w.run;
     let mut ledger = w.ledger;
     let mut words = w.words;
@@ -78,7 +78,7 @@ pub fn call(w: World, call: Start) -> World {
 }
 
 // A service starts, or a mask is made.
-pub fn guest_start(w: World, call: GuestStart) -> World {
+pub(crate) fn guest_start(w: World, call: GuestStart) -> World {
     let run = w.run;
     let mut ledger = w.ledger;
     let mut words = w.words;
@@ -92,7 +92,7 @@ pub fn guest_start(w: World, call: GuestStart) -> World {
     }
 }
 
-pub fn service(w: World) -> World {
+pub(crate) fn service(w: World) -> World {
     let run = w.run;
     let mut ledger = w.ledger;
     let mut words = w.words;
@@ -106,7 +106,7 @@ pub fn service(w: World) -> World {
     }
 }
 
-pub fn tell(w: World, told: u32) -> World {
+pub(crate) fn tell(w: World, told: u32) -> World {
     let run = w.run;
     let mut ledger = w.ledger;
     let mut words = w.words;
@@ -121,7 +121,7 @@ pub fn tell(w: World, told: u32) -> World {
 }
 
 // The access that a side waits for, with its reply.
-pub fn perform(w: World, side: Side) -> World {
+pub(crate) fn perform(w: World, side: Side) -> World {
     let run = w.run;
     let mut ledger = w.ledger;
     let mut words = w.words;
@@ -136,7 +136,7 @@ pub fn perform(w: World, side: Side) -> World {
 }
 
 // A side's accesses until its answer.
-pub fn finish(w: World, side: Side) -> World {
+pub(crate) fn finish(w: World, side: Side) -> World {
     let run = w.run;
     let mut ledger = w.ledger;
     let mut words = w.words;
@@ -151,7 +151,7 @@ pub fn finish(w: World, side: Side) -> World {
 }
 
 // The hypervisor's access, refused once with 14.
-pub fn perform_twice(w: World) -> World {
+pub(crate) fn perform_twice(w: World) -> World {
     let run = w.run;
     let mut ledger = w.ledger;
     let mut words = w.words;
@@ -166,7 +166,7 @@ pub fn perform_twice(w: World) -> World {
 }
 
 // A reply with any word and no access.
-pub fn hand_back(w: World, side: Side, word: u32) -> World {
+pub(crate) fn hand_back(w: World, side: Side, word: u32) -> World {
     let run = w.run;
     let mut ledger = w.ledger;
     let words = w.words;
@@ -180,26 +180,26 @@ pub fn hand_back(w: World, side: Side, word: u32) -> World {
     }
 }
 
-pub fn bind(w: World, port: u32) -> World {
+pub(crate) fn bind(w: World, port: u32) -> World {
     call(w, Start::Bind(Port(port)))
 }
 
-pub fn close(w: World, port: u32) -> World {
+pub(crate) fn close(w: World, port: u32) -> World {
     call(w, Start::Close(Port(port)))
 }
 
-pub fn raise(w: World, port: u32) -> World {
+pub(crate) fn raise(w: World, port: u32) -> World {
     call(w, Start::Raise(Port(port)))
 }
 
-pub fn unmask(w: World, port: u32) -> World {
+pub(crate) fn unmask(w: World, port: u32) -> World {
     call(w, Start::Unmask(Port(port)))
 }
 
-pub fn set_priority(w: World, port: u32, priority: u32) -> World {
+pub(crate) fn set_priority(w: World, port: u32, priority: u32) -> World {
     call(w, Start::SetPriority(Port(port), Priority(priority)))
 }
 
-pub fn mask(w: World, port: u32) -> World {
+pub(crate) fn mask(w: World, port: u32) -> World {
     guest_start(w, GuestStart::Mask(Port(port)))
 }

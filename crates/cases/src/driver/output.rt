@@ -15,12 +15,12 @@ fn write_line(out: &mut [u8], line: Line) {
     }
 }
 
-pub fn print_line(line: Line) {
+pub(crate) fn print_line(line: Line) {
     let mut space = [0u8; 128];
     write_line(&mut space, line);
 }
 
-pub fn print_event(event: Event) {
+pub(crate) fn print_event(event: Event) {
     let logged = machine::log::line_of(event);
     match logged {
         Logged::None => {}
@@ -34,7 +34,7 @@ fn print_count(count: u32) {
 }
 
 // The summary line: the counts of the answers printed.
-pub fn print_counts(counts: [u32; 256], answers: usize) {
+pub(crate) fn print_counts(counts: [u32; 256], answers: usize) {
     io::write_all(1, b"counts");
     let mut i = 0;
     while i < answers {
