@@ -1,25 +1,52 @@
-// Tests of the calls against numbers worked by hand: a line for each test, then their number. The names are those of the
-// readings of document 01, A1 (refusals), A2 (counts), A3 (hypervisor), A4 (guest), A5 (arbitrary records).
-mod arbitrary;
-mod counts;
+// Tests of the calls against numbers worked by hand, from the script on standard input: a line for each test, then their
+// number. The names are those of the readings of document 01, A1 (refusals), A2 (counts), A3 (hypervisor), A4 (guest),
+// A5 (arbitrary records).
+mod compare;
+mod domain;
 mod expect;
-mod guest_state;
-mod guest_steps;
-mod hypervisor_steps;
-mod ledgers;
-mod refusals;
-mod report;
-mod rows;
-mod stages;
+mod guest;
+mod ledger;
+mod numbers;
+mod record;
 mod state;
 
+use script::place;
+
+fn test() {
+    script::line(true);
+    if domain::test() {
+        io::write_all(1, b" ok\n");
+    } else {
+        io::write_all(1, b" FAILED\n");
+    }
+}
+
+fn total(tests: u32) {
+    io::print_decimal(1, tests as u64);
+    io::write_all(1, b" tests\n");
+}
+
+// The script's next test or remark: 1, 2, or 0 where there is none.
+fn next() -> u32 {
+    let kind = place(script::name(), b"test #");
+    match kind {
+        1 => test(),
+        2 => script::line(false),
+        _ => {}
+    }
+    kind
+}
+
 fn main() {
-    let tests = rows::run(0);
-    let tests = refusals::run(tests);
-    let tests = ledgers::run(tests);
-    let tests = counts::run(tests);
-    let tests = hypervisor_steps::run(tests);
-    let tests = guest_steps::run(tests);
-    let tests = arbitrary::run(tests);
-    report::total(tests);
+    let mut tests = 0;
+    let mut kind = next();
+    let mut turns: u32 = 1000;
+    while turns > 0 && kind != 0 {
+        if kind == 1 {
+            tests = calls::records::one_more(tests);
+        }
+        kind = next();
+        turns -= 1;
+    }
+    total(tests);
 }

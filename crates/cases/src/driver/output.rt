@@ -1,8 +1,14 @@
 // Lines of the log and of the counts, written to standard output.
+use crate::driver::run::due;
+use calls::types::Answer;
+use calls::types::Next;
 use machine::line::Line;
 use machine::line::Written;
 use machine::log::Logged;
 use machine::types::Event;
+use machine::types::Side;
+use machine::types::Sides;
+use machine::types::Step;
 
 fn write_line(out: &mut [u8], line: Line) {
     let written = machine::line::write_line(out, line);
@@ -20,7 +26,7 @@ pub(crate) fn print_line(line: Line) {
     write_line(&mut space, line);
 }
 
-pub(crate) fn print_event(event: Event) {
+fn print_event(event: Event) {
     let logged = machine::log::line_of(event);
     match logged {
         Logged::None => {}
@@ -28,19 +34,110 @@ pub(crate) fn print_event(event: Event) {
     }
 }
 
+fn print_due(sides: Sides, side: Side, word: u32) {
+    match due(sides, side) {
+        Next::Answer(_, _) => {}
+        Next::Access(access) => {
+            let line = machine::line::access_line(side, access, word);
+            print_line(line);
+        }
+    }
+}
+
+// The access that a reply alone is for: it is in the log, and is not made.
+pub(crate) fn print_reply(sides: Sides, step: Step) {
+    match step {
+        Step::Hypervisor(_) => {}
+        Step::Guest(_) => {}
+        Step::Perform(_) => {}
+        Step::HandBack(side, word) => print_due(sides, side, word),
+    }
+}
+
+// An answer's number and count, if one was given.
+pub(crate) struct Answered {
+    pub given: bool,
+    pub number: u32,
+    pub count: u32,
+}
+
+fn with_number(answer: Answer, count: u32) -> Answered {
+    let code = calls::answer::code_of(answer);
+    Answered {
+        given: true,
+        number: code.number,
+        count: count,
+    }
+}
+
+pub(crate) fn none() -> Answered {
+    Answered {
+        given: false,
+        number: 0,
+        count: 0,
+    }
+}
+
+fn answer_of(event: Event) -> Answered {
+    match event {
+        Event::Nothing => none(),
+        Event::HypervisorAccess(_, _, _) => none(),
+        Event::GuestAccess(_, _, _) => none(),
+        Event::MaskAccess(_, _) => none(),
+        Event::HypervisorAnswer(answer, count) => with_number(answer, count),
+        Event::GuestAnswer(answer, count) => with_number(answer, count),
+    }
+}
+
+// The lines of a step unless it is silent. An access whose reply 14 refuses is logged with the reply that is accepted.
+pub(crate) fn print(access: Event, answer: Event, silent: bool) -> Answered {
+    if silent {
+        return none();
+    }
+    let given = answer_of(answer);
+    let refused = given.number == 14;
+    if !refused {
+        print_event(access);
+    }
+    print_event(answer);
+    given
+}
+
 fn print_count(count: u32) {
     io::write_all(1, b"\t");
     io::print_decimal(1, count as u64);
 }
 
-// The summary line: the counts of the answers printed.
-pub(crate) fn print_counts(counts: [u32; 256], answers: usize) {
+// The counts of the answers printed.
+pub(crate) struct Tally {
+    pub counts: [u32; 256],
+    pub answers: usize,
+}
+
+pub(crate) fn with_answer(tally: Tally, answer: Answered) -> Tally {
+    let mut counts = tally.counts;
+    let at = tally.answers;
+    if !answer.given {
+        return tally;
+    }
+    if at < 256 {
+        counts[at] = answer.count;
+        return Tally {
+            counts: counts,
+            answers: at + 1,
+        };
+    }
+    tally
+}
+
+// The summary line.
+pub(crate) fn print_tally(tally: Tally) {
+    let counts = tally.counts;
+    let answers = tally.answers;
     io::write_all(1, b"counts");
     let mut i = 0;
-    while i < answers {
-        if i < 256 {
-            print_count(counts[i]);
-        }
+    while i < 256 && i < answers {
+        print_count(counts[i]);
         i += 1;
     }
     io::write_all(1, b"\n");

@@ -1,0 +1,97 @@
+-- `calls_check::guest::part` is safe and ends. The measure is the turns that are left. Assumes nothing.
+use borrow.Author.Needs.{needs}
+use Rattle.calls_check.proofs.guest.part.Statement.{statement}
+use Rattle.calls_check.proofs.guest.part.Tie as tie
+
+abbrev Inv-loop : tie.InvT-loop
+Inv-loop now₀ kept₀ ok₀ name₀ turns₀ t7 t8 t9 now kept ok name turns = Unit {0}
+
+abbrev μ-loop : tie.MeasureT-loop
+μ-loop now₀ kept₀ ok₀ name₀ turns₀ t7 t8 t9 now kept ok name turns = turns
+
+fresh-requires : tie.Need-fresh-requires Inv-loop μ-loop
+fresh-requires c κs = search needs
+
+made-requires : tie.Need-made-requires Inv-loop μ-loop
+made-requires c κs = search needs
+
+name-requires : tie.Need-name-requires Inv-loop μ-loop
+name-requires c κs = search needs
+
+loop-holds : tie.Need-loop-holds Inv-loop μ-loop
+loop-holds c = search needs
+
+slice-aggregate-is : tie.Need-slice-aggregate-is Inv-loop μ-loop
+slice-aggregate-is c = search needs
+
+is-requires : tie.Need-is-requires Inv-loop μ-loop
+is-requires c κs = search needs
+
+command-requires : tie.Need-command-requires Inv-loop μ-loop
+command-requires c κs = search needs
+
+slice-aggregate-is-2 : tie.Need-slice-aggregate-is-2 Inv-loop μ-loop
+slice-aggregate-is-2 c = search needs
+
+is-requires-2 : tie.Need-is-requires-2 Inv-loop μ-loop
+is-requires-2 c κs = search needs
+
+slice-aggregate-is-3 : tie.Need-slice-aggregate-is-3 Inv-loop μ-loop
+slice-aggregate-is-3 c = search needs
+
+is-requires-3 : tie.Need-is-requires-3 Inv-loop μ-loop
+is-requires-3 c κs = search needs
+
+name-requires-2 : tie.Need-name-requires-2 Inv-loop μ-loop
+name-requires-2 c κs = search needs
+
+holds-requires : tie.Need-holds-requires Inv-loop μ-loop
+holds-requires c κs = search needs
+
+turn-requires : tie.Need-turn-requires Inv-loop μ-loop
+turn-requires c κs = search needs
+
+name-requires-3 : tie.Need-name-requires-3 Inv-loop μ-loop
+name-requires-3 c κs = search needs
+
+sub-turns : tie.Need-sub-turns Inv-loop μ-loop
+sub-turns c = search needs
+
+loop-less : tie.Need-loop-less Inv-loop μ-loop
+loop-less c = search needs
+
+loop-again : tie.Need-loop-again Inv-loop μ-loop
+loop-again c = search needs
+
+returns : tie.Need-returns Inv-loop μ-loop
+returns c = search needs
+
+returns-2 : tie.Need-returns-2 Inv-loop μ-loop
+returns-2 c = search needs
+
+pub part-spec : {M : Type 1} → statement M
+part-spec =
+    tie.close
+    (tie.spec
+    Inv-loop
+    μ-loop
+    fresh-requires
+    made-requires
+    name-requires
+    loop-holds
+    slice-aggregate-is
+    is-requires
+    command-requires
+    slice-aggregate-is-2
+    is-requires-2
+    slice-aggregate-is-3
+    is-requires-3
+    name-requires-2
+    holds-requires
+    turn-requires
+    name-requires-3
+    sub-turns
+    loop-less
+    loop-again
+    returns
+    returns-2)
