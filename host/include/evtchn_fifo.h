@@ -14,7 +14,8 @@
  * Archives (x86-64 System V, no libc, no globals, reentrant; the same proved code):
  *     libevtchn_fifo.a         for user space: uses SSE registers and the red zone
  *     libevtchn_fifo_kernel.a  for a hypervisor: uses neither
- * No function needs more than EVTCHN_FIFO_STACK bytes of stack, and none calls anything outside the archive.
+ * No function needs more than EVTCHN_FIFO_STACK bytes of stack, and none calls anything outside the archive. Compile a host in
+ * user space by gcc with -fno-tree-slp-vectorize: else what a call gives passes through an SSE register, at the cost of a reply.
  *
  * Locks. A domain's record and its ledger belong to one lock, held from a call's start to its answer; a second call meanwhile
  * is refused (15). A guest's record belongs to its VCPU. evtchn_fifo_mask needs no lock.
