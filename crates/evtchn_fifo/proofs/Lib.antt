@@ -6,5 +6,6 @@ pub mod GuestLaws
 pub mod IdleLaws
 pub mod KeptBytes
 pub mod Narrow
+pub mod BeyondBytes
 pub mod Meaning
 pub mod GuestMeaning

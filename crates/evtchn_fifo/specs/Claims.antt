@@ -1,22 +1,24 @@
 -- What the exported functions mean: on bytes that are long enough each is the call of `calls` on the record and the ledger that
--- the bytes are; on shorter ones, and where document 01 refuses, every byte stays. n is the number of link bits. The theorems
--- `domain-calls`, `guest-calls`, `narrow-numbers` and `refusals` of proofs/ prove these records.
+-- the bytes are; on shorter ones, and where document 01 refuses, every byte stays; what lies beyond a record always does. n is the
+-- number of link bits. The theorems `domain-calls`, `guest-calls`, `narrow-numbers`, `refusals` and `beyond-stays` of proofs/ prove
+-- these records.
 -- Assumes nothing.
-use Prim.Native.Nat.{ℕ, _<_, _≤_}
+use Prim.Native.Nat.{ℕ, _*_, _<_, _≤_, max}
 use mathlib.Core.Path.{_≡_}
 use mathlib.Core.List.{List}
-use lib.ListN.{length, replicate}
-use lib.Dec.{eqb, ltb}
+use lib.ListN.{length, drop, replicate}
+use lib.Dec.{eqb, ltb, leb}
 use Rattle.word.specs.declared.Port.{Port}
-use Rattle.word.specs.Word.{portAt, linkBits}
+use Rattle.word.specs.Word.{portAt}
 use Rattle.word.specs.Entry.{priorityAt, freshEntry}
 use Rattle.calls.specs.declared.types.Domain.{Domain}
+use Rattle.calls.specs.declared.types.Answer.the-variants.{Done}
 use Rattle.calls.specs.declared.types.Outcome.{Outcome}
 use Rattle.calls.specs.declared.types.Guest.{Guest}
 use Rattle.calls.specs.declared.types.GuestOutcome.{GuestOutcome}
 use Rattle.calls.specs.Records.{isPort, freshDomain, freshGuest}
 use Rattle.calls.specs.Hypervisor.{Turn, isOffset, initControl, expandArray, bindStart, closeStart, setPriority, raiseStart, unmaskStart, replyOf, dueOf}
-use Rattle.calls.specs.Guest.{serviceStart, serviceReply, guestDueOf, tellOf}
+use Rattle.calls.specs.Guest.{serviceStart, serviceReply, guestDueOf, guestAnswered, withWords, maskOf, tellOf}
 use Rattle.evtchn_fifo.specs.declared.encoded.EncodedNext.{EncodedNext}
 use Rattle.evtchn_fifo.specs.declared.hypervisor.PortCall.{PortCall}
 use Rattle.evtchn_fifo.specs.Numbers.{narrow}
@@ -107,11 +109,16 @@ pub record GuestCalls (n : ℕ) : Type 0 where
   pub zeros : guestAt (replicate guestSize 0) ≡ freshGuest
 
 -- a number of 64 bits is refused, or not, as the number of 32 bits that stands for it
-pub record NarrowNumbers : Type 0 where
-  pub port : (p : ℕ) → isPort linkBits (narrow p) ≡ isPort linkBits p
+pub record NarrowNumbers (n : ℕ) : Type 0 where
+  pub port : (p : ℕ) → isPort n (narrow p) ≡ isPort n p
   pub priority : (level : ℕ) → ltb 15 (narrow level) ≡ ltb 15 level
   pub vcpu : (v : ℕ) → eqb (narrow v) 0 ≡ eqb v 0
   pub offset : (o : ℕ) → isOffset (narrow o) ≡ isOffset o
+  -- a number of words, which nothing refuses, reaches as far as the one that stands for it, but for the index 2 ^ 32 - 1
+  pub words : (words index : ℕ) → index < 0xFFFFFFFF → leb (narrow words) index ≡ leb words index
+  pub mask : (p words : ℕ) → maskOf n (portAt (narrow p)) (narrow words) ≡ maskOf n (portAt p) words
+  -- the larger of old and told
+  pub tell : (g : Guest) (old words : ℕ) → tellOf (withWords g (narrow old)) (narrow words) ≡ guestAnswered (withWords g (narrow (max old words))) Done
 
 -- ---- refusals keep every byte
 
@@ -131,3 +138,27 @@ pub record Refusals (n : ℕ) : Type 0 where
   pub reply : (seen : ℕ) → KeepsFrom 8 (λ r t. replyBytes n r t seen)
   pub service : KeepsAloneFrom 1 (λ r. serviceBytes n r)
   pub service-reply : (seen : ℕ) (r : List ℕ) → serviceReplyBytes n r seen .next .code < 18 → serviceReplyBytes n r seen ≡ wrote (serviceReplyBytes n r seen .next) r
+
+-- ---- bytes beyond a record, and beyond a ledger's last whole entry, stay
+
+-- as many bytes as before, and the same from `size` on
+pub record Beyond (size : ℕ) (before after : List ℕ) : Type 0 where
+  pub count : length after ≡ length before
+  pub bytes : drop size after ≡ drop size before
+
+pub record BothBeyond (r t : List ℕ) (c : Carried) : Type 0 where
+  pub domain : Beyond domainSize r (c .record-bytes)
+  pub ledger : Beyond (entries t * 2) t (c .ledger-bytes)
+
+-- whatever a call gives, also on a record that is too short
+pub record BeyondStays (n : ℕ) : Type 0 where
+  pub port-call : (call : PortCall) (p : Port) (r t : List ℕ) → BothBeyond r t (onPort n (startsOf n call) r t p)
+  pub reply : (seen : ℕ) (r t : List ℕ) → BothBeyond r t (replyBytes n r t seen)
+  pub init-control : (vcpu frame frames offset : ℕ) (r : List ℕ) → Beyond domainSize r (initBytes n r vcpu frame frames offset .record-bytes)
+  pub expand-array : (frame frames : ℕ) (r : List ℕ) → Beyond domainSize r (expandBytes n r frame frames .record-bytes)
+  pub service : (r : List ℕ) → Beyond guestSize r (serviceBytes n r .record-bytes)
+  pub service-reply : (seen : ℕ) (r : List ℕ) → Beyond guestSize r (serviceReplyBytes n r seen .record-bytes)
+  pub tell : (words : ℕ) (r : List ℕ) → Beyond guestSize r (tellBytes r words .record-bytes)
+  pub fresh-domain : (r : List ℕ) → Beyond domainSize r (freshDomainBytes r .record-bytes)
+  pub fresh-guest : (r : List ℕ) → Beyond guestSize r (freshGuestBytes r .record-bytes)
+  pub fresh-ledger : (t : List ℕ) → Beyond (entries t * 2) t (freshLedgerBytes t .record-bytes)
