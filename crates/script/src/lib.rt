@@ -1,4 +1,7 @@
 // A script on standard input: words with blanks or line ends between them. No contract can say what is read.
+ghost use mathlib.Core.Path.{_≡_};
+ghost use lib.Dec.{eqb};
+ghost use Rattle.script.specs.Names.{withLetter, endsName, lettersAfter, placeAfter, placeOf};
 
 // A word: its last eight letters as one number, its name; its digits as a decimal and as a hexadecimal number.
 struct Read {
@@ -22,7 +25,9 @@ fn is_letter(byte: u8) -> bool {
     byte > b' '
 }
 
-fn wide(byte: u8) -> u64 {
+fn wide(byte: u8) -> u64
+    ensures { λ r. ⌜ r ≡ byte ⌝ }
+{
     byte as u64
 }
 
@@ -44,7 +49,9 @@ fn digit(byte: u8) -> u64 {
 }
 
 // A name with one letter more; the last eight count.
-fn with_letter(name: u64, byte: u8) -> u64 {
+fn with_letter(name: u64, byte: u8) -> u64
+    ensures { λ r. ⌜ r ≡ withLetter name byte ⌝ }
+{
     name << 8 | wide(byte)
 }
 
@@ -112,29 +119,67 @@ fn low(value: u64) -> u32 {
     (value % 0x1_0000_0000) as u32
 }
 
+// Whether a byte of a list ends the name that is looked for.
+fn ends_name(name: u64, letters: u64, byte: u8) -> bool
+    ensures { λ r. ⌜ r ≡ endsName name letters byte ⌝ }
+{
+    let ends = byte == b' ';
+    if ends {
+        return letters == name;
+    }
+    false
+}
+
+// The letters of a name after a byte of its list.
+fn letters_after(letters: u64, byte: u8) -> u64
+    ensures { λ r. ⌜ r ≡ lettersAfter letters byte ⌝ }
+{
+    let ends = byte == b' ';
+    if ends {
+        return 0;
+    }
+    with_letter(letters, byte)
+}
+
+// The place of a name after a byte of its list.
+fn place_after(at: u32, byte: u8) -> u32
+    ensures { λ r. ⌜ r ≡ placeAfter at byte ⌝ }
+{
+    let ends = byte == b' ';
+    if ends {
+        return std::num::wrapping_add_u32(at, 1);
+    }
+    at
+}
+
 // The place of a name in a list of names with a blank between them: 1 for the first, 0 for a name that it lacks.
-pub fn place(name: u64, list: &[u8]) -> u32 {
+pub fn place(name: u64, list: &[u8]) -> u32
+    ensures { λ r. ⌜ r ≡ placeOf name (now (list .entry)) ⌝ }
+{
     let mut at = 1;
     let mut letters = 0;
     let mut i = 0;
     while i < list.len() {
         let byte = list[i];
-        if byte != b' ' {
-            letters = with_letter(letters, byte);
-        } else {
-            if letters == name {
-                return at;
-            }
-            letters = 0;
-            at = std::num::wrapping_add_u32(at, 1);
+        let found = ends_name(name, letters, byte);
+        if found {
+            return at;
         }
+        at = place_after(at, byte);
+        letters = letters_after(letters, byte);
         i += 1;
     }
-    if letters == name { at } else { 0 }
+    let last = letters == name;
+    if last {
+        return at;
+    }
+    0
 }
 
 // Whether a name is some text.
-pub fn is(name: u64, text: &[u8]) -> bool {
+pub fn is(name: u64, text: &[u8]) -> bool
+    ensures { λ r. ⌜ r ≡ eqb (placeOf name (now (text .entry))) 1 ⌝ }
+{
     place(name, text) == 1
 }
 
