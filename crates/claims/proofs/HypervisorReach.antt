@@ -264,7 +264,7 @@ module _ (n : ℕ) (d : Domain) (k : ℕ) (i : Invariant (record { state = d; na
 keeps : (n : ℕ) (s : Counting Domain) → Invariant s → (act : Act) → Invariant (runOne (hypervisorSide n) s act)
 keeps n s i act = keeps-turn n (s .state) (s .named) i (kind n (s .state) act)
 
-zeros : (m q : ℕ) → getD (replicate {A = ℕ} m 0) q 0 ≡ 0
+pub zeros : (m q : ℕ) → getD (replicate {A = ℕ} m 0) q 0 ≡ 0
 zeros zero q = refl
 zeros (suc m) zero = refl
 zeros (suc m) (suc q) = zeros m q

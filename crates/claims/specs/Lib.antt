@@ -1,4 +1,5 @@
 pub mod Cases
 pub mod SmallSet
+pub mod FurtherCases
 pub mod Reach
 pub mod Refusals

@@ -18,75 +18,78 @@ use Rattle.claims.specs.Cases.{Seen, hypervisor, guest, hypervisorAnswer
 
 -- ---- steps and facts in short
 
-abbrev bind : ℕ → Step
+abbrev pub bind : ℕ → Step
 bind p = step.Hypervisor (Bind (portAt p))
 
-abbrev close : ℕ → Step
+abbrev pub close : ℕ → Step
 close p = step.Hypervisor (Close (portAt p))
 
-abbrev raise : ℕ → Step
+abbrev pub setPriority : ℕ → ℕ → Step
+setPriority p r = step.Hypervisor (SetPriority (portAt p) (priorityAt r))
+
+abbrev pub raise : ℕ → Step
 raise p = step.Hypervisor (Raise (portAt p))
 
-abbrev unmask : ℕ → Step
+abbrev pub unmask : ℕ → Step
 unmask p = step.Hypervisor (Unmask (portAt p))
 
-abbrev mask : ℕ → Step
+abbrev pub mask : ℕ → Step
 mask p = step.Guest (Mask (portAt p))
 
 -- an access of the hypervisor's call, of the guest's, with its reply
 
-abbrev x : Step
+abbrev pub x : Step
 x = step.Perform side.Hypervisor
 
-abbrev g : Step
+abbrev pub g : Step
 g = step.Perform side.Guest
 
-abbrev service : Step
+abbrev pub service : Step
 service = step.Guest Service
 
-abbrev handBack : ℕ → Step
+abbrev pub handBack : ℕ → Step
 handBack w = step.HandBack side.Hypervisor w
 
 infix 20 _is_
-abbrev _is_ : Number → ℕ → Fact
+abbrev pub _is_ : Number → ℕ → Fact
 n is v = record { number = n; is = v }
 
 -- accesses on the word of a port, on READY, on a queue's HEAD
 
-abbrev orWord : ℕ → ℕ → Access
+abbrev pub orWord : ℕ → ℕ → Access
 orWord p v = Or (Word (portAt p)) v
 
-abbrev andWord : ℕ → ℕ → Access
+abbrev pub andWord : ℕ → ℕ → Access
 andWord p v = And (Word (portAt p)) v
 
-abbrev readWord : ℕ → Access
+abbrev pub readWord : ℕ → Access
 readWord p = Read (Word (portAt p))
 
-abbrev readHead : ℕ → Access
+abbrev pub readHead : ℕ → Access
 readHead q = Read (Head (queueAt q))
 
-abbrev storeHead : ℕ → ℕ → Access
+abbrev pub storeHead : ℕ → ℕ → Access
 storeHead q v = Store (Head (queueAt q)) v
 
-abbrev casWord : ℕ → ℕ → ℕ → Access
+abbrev pub casWord : ℕ → ℕ → ℕ → Access
 casWord p old new = Cas (Word (portAt p)) old new
 
-abbrev orReady : ℕ → Access
+abbrev pub orReady : ℕ → Access
 orReady v = Or Ready v
 
-abbrev swapReady : Access
+abbrev pub swapReady : Access
 swapReady = Swap Ready 0
 
 -- a part after which the hypervisor has no call under way
-abbrev part : List Step → List Seen → List Fact → Part
+abbrev pub part : List Step → List Seen → List Fact → Part
 part steps seen facts = record { steps = steps; seen = seen; due = next.Answer NoCall 0; facts = facts }
 
 -- ---- what runs before a case
 
-abbrev prologue : List Step
+abbrev pub prologue : List Step
 prologue = step.Hypervisor (InitControl 0 1 1024 0) ∷ step.Hypervisor (ExpandArray 2 1024) ∷ step.Guest (Tell 1024) ∷ []
 
-abbrev one : List Step
+abbrev pub one : List Step
 one = bind 5 ∷ x ∷ raise 5 ∷ x ∷ x ∷ x ∷ x ∷ []
 
 abbrev two : List Step
@@ -209,7 +212,7 @@ abbrev c10 : Case
 c10 = record {
   before = prologue ++ one ++ two ++ three ++ four ++ five;
   parts =
-      part (step.Hypervisor (SetPriority (portAt 9) (priorityAt 0)) ∷ []) (hypervisorAnswers Done 0 ∷ []) ((entryOf 9 is 0x0370) ∷ [])
+      part (setPriority 9 0 ∷ []) (hypervisorAnswers Done 0 ∷ []) ((entryOf 9 is 0x0370) ∷ [])
       ∷ part (raise 9 ∷ x ∷ x ∷ x ∷ x ∷ [])
       (hypervisor (orWord 9 0x80000000) 0 ∷ hypervisor (orWord 9 0x20000000) 0x80000000 ∷ hypervisor (storeHead 0 9) 0
       ∷ hypervisor (orReady 0x1) 0 ∷ hypervisorAnswers UpcallWanted 4 ∷ [])

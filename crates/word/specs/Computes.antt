@@ -1,6 +1,6 @@
 -- The one handle by which a proof about concrete words computes: `unfolding computes` opens every definition of the word
--- rules. Three proofs above this crate name it: the table of cases, the longest calls, and the example of demand 3. Every
--- other one uses laws, and opens no definition of this crate.
+-- rules. Above this crate only the machine's handle for concrete steps and the worlds that demand 3's claim refuses name it. Every
+-- other proof uses laws, and opens no definition of this crate.
 -- Assumes nothing.
 use Prim.Native.Nat.{ℕ}
 use lib.Count.{trailingZeros}
