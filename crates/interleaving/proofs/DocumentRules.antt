@@ -3,12 +3,11 @@
 use mathlib.Core.Path.{_≡_, refl}
 use mathlib.Core.Bool.{Bool, true, false, not, _&&_}
 use mathlib.Core.List.{List, [], _∷_}
-use Prim.Native.Nat.{ℕ, _+_, _^_, _≤_, zero-le}
+use Prim.Native.Nat.{ℕ, _+_, _≤_, zero-le}
 use native.Mathlib.Nat.{le-refl}
 use native.Mathlib.Omega.{arith}
 use lib.Dec.{eqb, ltb}
 use borrow.Author.Tests.{ltb-true, ltb-false, eqb-true}
-use lib.ListN.{length}
 use Rattle.word.specs.declared.Port.{Port}
 use Rattle.word.specs.Word.{Width}
 use Rattle.calls.specs.declared.types.Next.{Next}
@@ -28,7 +27,7 @@ use Rattle.calls.specs.Records.{oneMore, entryAt, isFree}
 use Rattle.calls.specs.Hypervisor.{Turn, acceptExpand, initControlOf, initControl, expandArrayOf, expandArray, bindStart, closeStart, setPriority, raiseStart, unmaskStart, started, moved, dueOf, replyFound, replyOf}
 use Rattle.calls.specs.Guest.{isServing, serviceStart, guestMoved, serviceReply, guestDueOf, maskOf, tellOf}
 use Rattle.machine.specs.Memory.{Memory}
-use Rattle.machine.specs.Exec.{World, exec, execAll, advanceOf, expandOf, startOf, performSide, performHypervisorNext, performHypervisor, performGuestNext, performGuest, performMasking, performMask, guestStartOf, handBack}
+use Rattle.machine.specs.Exec.{World, exec, advanceOf, expandOf, startOf, performSide, performHypervisorNext, performHypervisor, performGuestNext, performGuest, performMasking, performMask, guestStartOf, handBack}
 use Rattle.machine.specs.declared.types.Side.the-variants as side
 use Rattle.machine.specs.declared.types.Start.{Start}
 use Rattle.machine.specs.declared.types.Start.the-variants.{InitControl, ExpandArray, Bind, Close, SetPriority, Raise, Unmask}
@@ -37,9 +36,8 @@ use Rattle.machine.specs.declared.types.Step.{Step}
 use Rattle.machine.specs.declared.types.Step.the-variants as step
 use Rattle.queue.proofs.Cases.{clash, by-cond, or-none}
 use Rattle.interleaving.specs.Fresh.{arrayWords, freshWorld}
-use Rattle.interleaving.specs.Rules.{Told, Allowed, KeepsRules, tellsArray, tellDue, AllowedByDocument, KeepsDocumentRules}
-use Rattle.interleaving.specs.Claim.{Claim}
-use Rattle.interleaving.specs.Demand3.{Demand3}
+use Rattle.interleaving.specs.Rules.{Told, Allowed, KeepsRules, tellsArray, tellDue, AllowedByDocument, KeepsDocumentRules, DocumentRules}
+use Rattle.interleaving.specs.Demand3.{Demand3, Demand3ByDocument}
 use Rattle.interleaving.proofs.Theorem.{demand3}
 
 -- ---- the array never shrinks
@@ -155,11 +153,10 @@ follows-rules n due w [] f a = tt
 follows-rules n due w (s ∷ ss) f a = (allowed due w s f (a .0), follows-rules n (tellDue due w s (exec n w s .world)) (exec n w s .world) ss (follows-step n due w s (a .0) f) (a .1))
 
 -- from a fresh world, where no tell is due
-pub document-rules : (n : ℕ) (lent : List ℕ) (entries : ℕ) (ss : List Step) → KeepsDocumentRules n false (freshWorld lent entries) ss → KeepsRules n (freshWorld lent entries) ss
+pub document-rules : (n : ℕ) → DocumentRules n
 document-rules n lent entries ss a = follows-rules n false (freshWorld lent entries) ss (record { below = zero-le; told = λ e. refl }) a
 
 -- so demand 3's claim holds under document 01's own rules
-pub demand3-by-document : {n : ℕ} → Width n → (lent : List ℕ) (entries : ℕ) (steps : List Step) → 2 ^ n ≤ length lent → KeepsDocumentRules n false (freshWorld lent entries) steps
-    → Claim n (execAll n (freshWorld lent entries) steps .world) (execAll n (freshWorld lent entries) steps .events)
-unfolding Demand3
+pub demand3-by-document : {n : ℕ} → Width n → Demand3ByDocument n
+unfolding Demand3 Demand3ByDocument
 demand3-by-document {n} wide lent entries steps le rules = demand3 wide lent entries steps le (document-rules n lent entries steps rules)

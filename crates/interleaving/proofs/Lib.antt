@@ -17,5 +17,7 @@ pub mod GuestStarts
 pub mod Steps
 pub mod Theorem
 pub mod Counts
+pub mod Refused
+pub mod Reach
 pub mod DocumentRules
 pub mod Example

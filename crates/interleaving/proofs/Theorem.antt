@@ -32,7 +32,7 @@ use Rattle.queue.proofs.Expand.{fresh-keeps}
 use Rattle.queue.proofs.Claim.{standing, linked-once, none-lost, rest-unlinked, rest-masked}
 use Rattle.queue.proofs.OneVcpu.{alone-none, alone-held}
 use Rattle.interleaving.specs.Fresh.{freshWorld}
-use Rattle.interleaving.specs.Standing.{readyWord, Standing, StandsOn}
+use Rattle.interleaving.specs.Standing.{readyWord, StandingUnique, StandsOn}
 use Rattle.interleaving.specs.Held.{isLinking, hasLinked, hasTaken, HeldByHypervisor, HeldByLinker, HeldByGuest}
 use Rattle.interleaving.specs.Claim.{Rest, Claim}
 use Rattle.interleaving.specs.Demand3.{Demand3}
@@ -145,8 +145,8 @@ module _ {n : ℕ} {w : World} {h : List Event} (k : Good n w h) where
   }
 
 -- the ports that stand on a queue are one list
-pub standing-unique : (n : ℕ) (w : World) (q : ℕ) {l m : List ℕ} → Standing n w q l → Standing n w q m → l ≡ m
-standing-unique n w q a b = chain-unique a b
+pub standing-unique : StandingUnique
+standing-unique n w q l m a b = chain-unique a b
 
 -- ---- the fresh world
 filled : {A : Type 0} (f : ℕ → A) (a : A) (x : ℕ) → f x ≡ a → f 0 ≡ a → (entries i : ℕ) → f (getD (replicate entries x) i 0) ≡ a

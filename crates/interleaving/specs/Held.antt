@@ -48,6 +48,6 @@ pub record HeldByLinker (c : Call) (p : ℕ) : Type 0 where
   pub holds : HeldByHypervisor c p
   pub linked : hasLinked (c .stage) ≡ true
 
-pub record HeldByGuest (c : GuestCall) (p : ℕ) : Type 0 where
-  pub taken : hasTaken (c .stage) ≡ true
-  pub port : p ≡ c .port .0
+pub record HeldByGuest (s : GuestCall) (p : ℕ) : Type 0 where
+  pub taken : hasTaken (s .stage) ≡ true
+  pub port : p ≡ s .port .0

@@ -5,5 +5,8 @@ pub mod Standing
 pub mod Held
 pub mod Claim
 pub mod Demand3
+pub mod Refused
+pub mod Example
+pub mod Reach
 pub mod Bounds
 pub mod Counts

@@ -12,7 +12,7 @@ use Rattle.machine.specs.declared.types.Side.the-variants as side
 use Rattle.machine.specs.declared.types.GuestStart.the-variants.{Service, Mask, Tell}
 use Rattle.machine.specs.declared.types.Step.{Step}
 use Rattle.machine.specs.declared.types.Step.the-variants as step
-use Rattle.interleaving.specs.Fresh.{arrayWords}
+use Rattle.interleaving.specs.Fresh.{freshWorld, arrayWords}
 
 -- her number of words is the array's
 abbrev pub Told : World → Type 0
@@ -61,3 +61,7 @@ AllowedByDocument due w (step.HandBack side.Guest word) = (due ≡ false) × (is
 abbrev pub KeepsDocumentRules : ℕ → Bool → World → List Step → Type 0
 KeepsDocumentRules n due w [] = Unit {0}
 KeepsDocumentRules n due w (s ∷ ss) = AllowedByDocument due w s × KeepsDocumentRules n (tellDue due w s (exec n w s .world)) (exec n w s .world) ss
+
+-- from a fresh world, where no tell is due, they imply the rules above
+abbrev pub DocumentRules : ℕ → Type 0
+DocumentRules n = (lent : List ℕ) (entries : ℕ) (steps : List Step) → KeepsDocumentRules n false (freshWorld lent entries) steps → KeepsRules n (freshWorld lent entries) steps

@@ -1,0 +1,1 @@
+// Theorems about runs of the exported functions of evtchn_fifo: no function stands here.

@@ -1,0 +1,126 @@
+-- Demand 3 is not vacuous: a list of steps that keeps document 01's rules, with steps of every kind in it, and what it comes to.
+-- Assumes nothing.
+use Prim.Native.Nat.{ℕ, _+_, _^_, _≤_, _<_}
+use mathlib.Core.Path.{_≡_}
+use mathlib.Core.Bool.{true, false}
+use mathlib.Core.List.{List, [], _∷_, _++_}
+use lib.ListN.{length, replicate}
+use Rattle.word.specs.declared.Flag.the-variants.{Pending, Masked, Linked}
+use Rattle.word.specs.Word.{linkBits, has, portAt}
+use Rattle.word.specs.Entry.{priorityAt}
+use Rattle.calls.specs.declared.types.Answer.the-variants.{CallUnderWay, NoCall}
+use Rattle.machine.specs.Exec.{World, Stepped, exec, execAll}
+use Rattle.machine.specs.declared.types.Side.the-variants as side
+use Rattle.machine.specs.declared.types.Start.the-variants.{InitControl, ExpandArray, Bind, Close, SetPriority, Raise, Unmask}
+use Rattle.machine.specs.declared.types.GuestStart.the-variants.{Service, Mask, Tell}
+use Rattle.machine.specs.declared.types.Step.{Step}
+use Rattle.machine.specs.declared.types.Step.the-variants as step
+use Rattle.machine.specs.declared.types.Event.the-variants.{HypervisorAnswer, GuestAnswer}
+use Rattle.interleaving.specs.Fresh.{freshWorld, wordAt}
+use Rattle.interleaving.specs.Rules.{KeepsDocumentRules}
+use Rattle.interleaving.specs.Histories.{takenIn, givenOut}
+use Rattle.interleaving.specs.Standing.{Standing}
+use Rattle.interleaving.specs.Held.{HeldByLinker, HeldByGuest}
+use Rattle.interleaving.specs.Claim.{Rest, Claim}
+
+-- ---- steps in short
+
+-- an access of the hypervisor's call, of the guest's, with its reply
+abbrev x : Step
+x = step.Perform side.Hypervisor
+
+abbrev g : Step
+g = step.Perform side.Guest
+
+abbrev tell : ℕ → Step
+tell words = step.Guest (Tell words)
+
+abbrev bind : ℕ → List Step
+bind p = step.Hypervisor (Bind (portAt p)) ∷ x ∷ []
+
+-- ---- the list, in parts
+
+-- a page, of which she is told half and then all; port 5 is bound, and its raise has made R1 and R2
+abbrev pub linking : List Step
+linking =
+    step.Hypervisor (InitControl 0 1 4 0) ∷ step.Hypervisor (ExpandArray 2 4) ∷ tell 512 ∷ tell 1024
+    ∷ bind 5 ++ step.Hypervisor (Raise (portAt 5)) ∷ x ∷ x ∷ []
+
+-- a start during that raise and a guest's reply to nothing are refused; the raise ends, and port 9 is raised behind 5
+abbrev pub refusedStart : Step
+refusedStart = step.Hypervisor (Bind (portAt 9))
+
+abbrev pub refusedReply : Step
+refusedReply = step.HandBack side.Guest 0x80
+
+abbrev pub raising : List Step
+raising = refusedStart ∷ refusedReply ∷ x ∷ x ∷ bind 9 ++ step.Hypervisor (Raise (portAt 9)) ∷ x ∷ x ∷ x ∷ x ∷ []
+
+-- 5 is served, masked and raised, which leaves it pending; the unmask links it behind 9
+abbrev pub unmasking : List Step
+unmasking =
+    step.Guest Service ∷ g ∷ g ∷ g ∷ g ∷ g ∷ step.Guest (Mask (portAt 5)) ∷ step.Hypervisor (Raise (portAt 5)) ∷ x
+    ∷ step.Hypervisor (Unmask (portAt 5)) ∷ x ∷ x ∷ x ∷ x ∷ []
+
+-- a second page, whose port 1030 is raised with priority 3
+abbrev pub expanding : List Step
+expanding =
+    step.Hypervisor (ExpandArray 3 4) ∷ tell 2048 ∷ bind 1030
+    ++ step.Hypervisor (SetPriority (portAt 1030) (priorityAt 3)) ∷ step.Hypervisor (Raise (portAt 1030)) ∷ x ∷ x ∷ x ∷ x ∷ []
+
+-- it is served first, and closed; 9 is served, and of 5's service G0 and G2 are made
+abbrev pub serving : List Step
+serving =
+    step.Guest Service ∷ g ∷ g ∷ g ∷ g ∷ g ∷ step.Hypervisor (Close (portAt 1030)) ∷ x
+    ∷ step.Guest Service ∷ g ∷ g ∷ g ∷ g ∷ step.Guest Service ∷ g ∷ g ∷ []
+
+-- that service ends, and another finds nothing
+abbrev pub ending : List Step
+ending = g ∷ g ∷ step.Guest Service ∷ g ∷ []
+
+-- both are raised; 5 is taken
+abbrev pub raised : List Step
+raised = linking ++ raising
+
+abbrev pub taking : List Step
+taking = raised ++ unmasking ++ expanding ++ serving
+
+abbrev pub example : List Step
+example = taking ++ ending
+
+-- ---- what it comes to
+
+-- lent words of 1, and behind two pages any others; entries up to port 1030
+abbrev pub start : List ℕ → World
+start rest = freshWorld (replicate 2048 1 ++ rest) 1031
+
+-- port p is pending and not masked, and no port stands on a queue
+pub record OnNoQueue (w : World) (p : ℕ) : Type 0 where
+  pub pending : has Pending (wordAt w p) ≡ true
+  pub unmasked : has Masked (wordAt w p) ≡ false
+  pub empty : (q : ℕ) → q < 16 → Standing linkBits w q []
+
+module _ (rest : List ℕ) where
+  abbrev pub after : List Step → Stepped
+  after steps = execAll linkBits (start rest) steps
+
+  pub record ExampleHolds : Type 0 where
+    pub rules : KeepsDocumentRules linkBits false (start rest) example
+    -- the raises of 5 and 9 and the unmask of 5 are taken in, and given out, in that order
+    pub taken : takenIn 7 (after example .events) ≡ 5 ∷ 9 ∷ 5 ∷ []
+    pub given : givenOut 7 (after example .events) ≡ 5 ∷ 9 ∷ 5 ∷ []
+    pub taken-3 : takenIn 3 (after example .events) ≡ 1030 ∷ []
+    pub given-3 : givenOut 3 (after example .events) ≡ 1030 ∷ []
+    pub atRest : Rest (after example .world)
+    -- on a queue: 5 and then 9
+    pub standing : Standing linkBits (after raised .world) 7 (5 ∷ 9 ∷ [])
+    -- or held: 5, which the raise has linked, and which the service has taken
+    pub heldByRaise : OnNoQueue (after linking .world) 5 × (has Linked (wordAt (after linking .world) 5) ≡ true) × HeldByLinker (after linking .world .domain .call) 5
+    pub heldByService : OnNoQueue (after taking .world) 5 × HeldByGuest (after taking .world .guest .call) 5
+    -- the refusals
+    pub fifteen : exec linkBits (after linking .world) refusedStart .events ≡ HypervisorAnswer CallUnderWay 0 ∷ []
+    pub sixteen : exec linkBits (after linking .world) refusedReply .events ≡ GuestAnswer NoCall 0 ∷ []
+
+-- so the claim's terms can be met, and it holds of the list
+abbrev pub ExampleClaim : Type 0
+ExampleClaim = (rest : List ℕ) → 2 ^ linkBits ≤ 2048 + length rest → Claim linkBits (after rest example .world) (after rest example .events)
