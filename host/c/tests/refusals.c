@@ -1,6 +1,7 @@
 /*
  * Every refusal of document 01, in each call's order: an input that fails every test gets the first number; once that is put
- * right, the next; and so on to the call's success. A refusal leaves every byte of record and ledger as it was.
+ * right, the next; and so on to the call's success. A refusal leaves every byte of record and ledger as it was, and a number of 64
+ * bits is judged by all of them. Every row is tried with slices of the right length and with longer ones.
  */
 #include <string.h>
 
@@ -21,6 +22,9 @@ static struct input {
     uint32_t seen;
 } in;
 
+/* bytes lent beyond a record, 5 at most; where they are odd, the ledger has a last odd byte */
+static size_t beyond;
+
 static void put(uint8_t *bytes, size_t at, uint32_t value)
 {
     bytes[at] = (uint8_t)value;
@@ -39,19 +43,24 @@ enum { GIVEN = 0, PAGES = 4, OWNER = 72, STAGE = 76, PORT = 80, COUNT = 96, GUES
 
 typedef evtchn_fifo_next call(void);
 
-static evtchn_fifo_next init_control(void) { return evtchn_fifo_init_control(domain, EVTCHN_FIFO_DOMAIN_SIZE, in.vcpu, in.frame, in.frames, in.offset); }
-static evtchn_fifo_next expand_array(void) { return evtchn_fifo_expand_array(domain, EVTCHN_FIFO_DOMAIN_SIZE, in.frame, in.frames); }
-static evtchn_fifo_next bind(void) { return evtchn_fifo_bind(domain, EVTCHN_FIFO_DOMAIN_SIZE, ledger, in.entries * 2, in.port); }
-static evtchn_fifo_next close(void) { return evtchn_fifo_close(domain, EVTCHN_FIFO_DOMAIN_SIZE, ledger, in.entries * 2, in.port); }
-static evtchn_fifo_next set_priority(void) { return evtchn_fifo_set_priority(domain, EVTCHN_FIFO_DOMAIN_SIZE, ledger, in.entries * 2, in.port, in.priority); }
-static evtchn_fifo_next raise(void) { return evtchn_fifo_raise(domain, EVTCHN_FIFO_DOMAIN_SIZE, ledger, in.entries * 2, in.port); }
-static evtchn_fifo_next unmask(void) { return evtchn_fifo_unmask(domain, EVTCHN_FIFO_DOMAIN_SIZE, ledger, in.entries * 2, in.port); }
-static evtchn_fifo_next reply(void) { return evtchn_fifo_reply(domain, EVTCHN_FIFO_DOMAIN_SIZE, ledger, in.entries * 2, in.seen); }
-static evtchn_fifo_next due(void) { return evtchn_fifo_due(domain, EVTCHN_FIFO_DOMAIN_SIZE); }
-static evtchn_fifo_next service(void) { return evtchn_fifo_service(guest, EVTCHN_FIFO_GUEST_SIZE); }
-static evtchn_fifo_next service_reply(void) { return evtchn_fifo_service_reply(guest, EVTCHN_FIFO_GUEST_SIZE, in.seen); }
-static evtchn_fifo_next service_due(void) { return evtchn_fifo_service_due(guest, EVTCHN_FIFO_GUEST_SIZE); }
+#define DOMAIN domain, EVTCHN_FIFO_DOMAIN_SIZE + beyond
+#define GUEST guest, EVTCHN_FIFO_GUEST_SIZE + beyond
+#define LEDGER ledger, in.entries * 2 + beyond % 2
+
+static evtchn_fifo_next init_control(void) { return evtchn_fifo_init_control(DOMAIN, in.vcpu, in.frame, in.frames, in.offset); }
+static evtchn_fifo_next expand_array(void) { return evtchn_fifo_expand_array(DOMAIN, in.frame, in.frames); }
+static evtchn_fifo_next bind(void) { return evtchn_fifo_bind(DOMAIN, LEDGER, in.port); }
+static evtchn_fifo_next close(void) { return evtchn_fifo_close(DOMAIN, LEDGER, in.port); }
+static evtchn_fifo_next set_priority(void) { return evtchn_fifo_set_priority(DOMAIN, LEDGER, in.port, in.priority); }
+static evtchn_fifo_next raise(void) { return evtchn_fifo_raise(DOMAIN, LEDGER, in.port); }
+static evtchn_fifo_next unmask(void) { return evtchn_fifo_unmask(DOMAIN, LEDGER, in.port); }
+static evtchn_fifo_next reply(void) { return evtchn_fifo_reply(DOMAIN, LEDGER, in.seen); }
+static evtchn_fifo_next due(void) { return evtchn_fifo_due(DOMAIN); }
+static evtchn_fifo_next service(void) { return evtchn_fifo_service(GUEST); }
+static evtchn_fifo_next service_reply(void) { return evtchn_fifo_service_reply(GUEST, in.seen); }
+static evtchn_fifo_next service_due(void) { return evtchn_fifo_service_due(GUEST); }
 static evtchn_fifo_next mask(void) { return evtchn_fifo_mask(in.port, in.words); }
+static evtchn_fifo_next tell(void) { return evtchn_fifo_tell(GUEST, in.words); }
 
 static void keep(void)
 {
@@ -67,16 +76,51 @@ static int kept(void)
 }
 
 /* a refusal: its number, count 0, and every byte as it was */
-static void refused_at(int line, call *f, uint32_t code)
+static int is_refused(call *f, uint32_t code)
 {
     evtchn_fifo_next next;
     keep();
     next = f();
-    check_at(__FILE__, line, "refused with its number", next.code == code && next.index == 0 && next.value == 0 && next.old == 0);
-    check_at(__FILE__, line, "a refusal keeps every byte", kept());
+    return next.code == code && next.index == 0 && next.value == 0 && next.old == 0 && kept();
 }
 
-#define REFUSED(f, code) refused_at(__LINE__, f, code)
+#define REFUSED(f, code) CHECK(is_refused(f, code))
+
+/* the same of every number that has one bit more than this one, from bit `from` up */
+static int is_refused_from(call *f, uint64_t *number, unsigned from, uint32_t code)
+{
+    uint64_t usual = *number;
+    int holds = 1;
+    for (; from < 64; from++) {
+        *number = usual + (UINT64_C(1) << from);
+        holds = holds && is_refused(f, code);
+    }
+    *number = usual;
+    return holds;
+}
+
+#define REFUSED_FROM(f, number, from, code) CHECK(is_refused_from(f, &(number), from, code))
+
+/* What a call gives that is not refused; a code that none has where a byte changed beside the records and the port's entry. */
+static evtchn_fifo_next accepted(call *f)
+{
+    evtchn_fifo_next next;
+    keep();
+    next = f();
+    memcpy(domain_copy + (domain - domain_buffer), domain, EVTCHN_FIFO_DOMAIN_SIZE);
+    memcpy(guest_copy + (guest - guest_buffer), guest, EVTCHN_FIFO_GUEST_SIZE);
+    memcpy(ledger_copy + (ledger - ledger_buffer) + 2 * in.port, ledger + 2 * in.port, 2);
+    if (!kept())
+        next.code = UINT32_MAX;
+    return next;
+}
+
+static int holds_from(unsigned from, int (*holds)(unsigned bit))
+{
+    while (from < 64 && holds(from))
+        from++;
+    return from == 64;
+}
 
 /* bytes of no use: a given of 2, codes of no owner or stage, numbers in every field */
 static void fill(void)
@@ -92,6 +136,21 @@ static void fill(void)
     put(domain, STAGE, 0);
 }
 
+/* 11; leaves frame 3 of 1, which is below once the frame count has one bit more */
+static void frame_rows(call *f)
+{
+    in.frame = 9;
+    in.frames = 9;
+    REFUSED(f, 11);
+    in.frame = UINT64_C(0xFFFFFFFFFFFFFFFF);
+    REFUSED(f, 11);
+    in.frame = 3;
+    in.frames = 5;
+    REFUSED_FROM(f, in.frame, 3, 11);
+    in.frames = 1;
+    REFUSED(f, 11);
+}
+
 static void init_row(void)
 {
     fill();
@@ -103,15 +162,12 @@ static void init_row(void)
     in.offset = 4020;
     REFUSED(init_control, 15);
     put(domain, OWNER, 5);
-    REFUSED(init_control, 17);
-    in.vcpu = 1;
-    REFUSED(init_control, 17);
     in.vcpu = 0;
+    REFUSED_FROM(init_control, in.vcpu, 0, 17);
     REFUSED(init_control, 9);
     put(domain, GIVEN, 0);
-    REFUSED(init_control, 11);
-    in.frame = UINT64_C(0xFFFFFFFFFFFFFFFF);
-    REFUSED(init_control, 11);
+    frame_rows(init_control);
+    REFUSED_FROM(init_control, in.frames, 2, 12);
     in.frame = UINT64_C(0x100000000);
     in.frames = UINT64_C(0x100000001);
     REFUSED(init_control, 12);
@@ -119,14 +175,21 @@ static void init_row(void)
     REFUSED(init_control, 12);
     in.offset = 4032;
     REFUSED(init_control, 12);
-    in.offset = UINT64_C(0x100000000);
-    REFUSED(init_control, 12);
     in.offset = 4024;
+    REFUSED_FROM(init_control, in.offset, 12, 12);
     {
-        evtchn_fifo_next next = init_control();
+        evtchn_fifo_next next = accepted(init_control);
         CHECK(next.code == 0 && next.index == 17 && next.value == 0);
     }
     REFUSED(init_control, 9);
+}
+
+/* frame 3 is below a frame count of 1 and this bit */
+static int expands(unsigned bit)
+{
+    in.frames = 1 + (UINT64_C(1) << bit);
+    put(domain, PAGES, 127);
+    return accepted(expand_array).code == 0;
 }
 
 static void expand_row(void)
@@ -143,9 +206,8 @@ static void expand_row(void)
     put(domain, PAGES, 128);
     REFUSED(expand_array, 13);
     put(domain, PAGES, 127);
-    REFUSED(expand_array, 11);
-    in.frames = 1;
-    CHECK(expand_array().code == 0);
+    frame_rows(expand_array);
+    CHECK(holds_from(2, expands));
     REFUSED(expand_array, 13);
 }
 
@@ -177,6 +239,7 @@ static void port_rows(call *f)
     REFUSED(f, 14);
     in.entries = 2001;
     put_entry(2000, 0xFC07);
+    REFUSED_FROM(f, in.port, 17, 3);
 }
 
 static void bind_row(void)
@@ -185,7 +248,7 @@ static void bind_row(void)
     put_entry(2000, 0xFD07);
     REFUSED(bind, 5);
     put_entry(2000, 0xFC07);
-    CHECK(bind().code == 0 && ledger[4000] == 0x07 && ledger[4001] == 0xFD);
+    CHECK(accepted(bind).code == 0 && ledger[4000] == 0x07 && ledger[4001] == 0xFD);
 }
 
 static void close_row(void)
@@ -193,17 +256,19 @@ static void close_row(void)
     port_rows(close);
     REFUSED(close, 4);
     put_entry(2000, 0xFF73);
-    CHECK(close().code == 0 && ledger[4000] == 0x77 && ledger[4001] == 0xFE);
+    CHECK(accepted(close).code == 0 && ledger[4000] == 0x77 && ledger[4001] == 0xFE);
 }
 
 static void priority_row(void)
 {
     port_rows(set_priority);
     REFUSED(set_priority, 8);
+    in.priority = 15;
+    REFUSED_FROM(set_priority, in.priority, 4, 8);
     in.priority = 16;
     REFUSED(set_priority, 8);
     in.priority = 15;
-    CHECK(set_priority().code == 0 && ledger[4000] == 0x0F && ledger[4001] == 0xFC);
+    CHECK(accepted(set_priority).code == 0 && ledger[4000] == 0x0F && ledger[4001] == 0xFC);
 }
 
 static void link_row(call *f, uint32_t first)
@@ -213,9 +278,9 @@ static void link_row(call *f, uint32_t first)
     put_entry(2000, 0xFD07);
     REFUSED(f, 6);
     put(domain, PAGES, 2);
-    CHECK(f().code == first);
+    CHECK(accepted(f).code == first);
     REFUSED(f, 15);
-    CHECK(due().code == first);
+    CHECK(accepted(due).code == first);
 }
 
 /* 16 and 14 at every stage; the call is under way as before */
@@ -242,10 +307,11 @@ static void reply_row(void)
         }
     put(domain, STAGE, 5);
     put(domain, COUNT, 0xFFFFFFFFu);
+    in.port = 700;
     in.entries = 701;
     in.seen = 0;
     {
-        evtchn_fifo_next next = reply();
+        evtchn_fifo_next next = accepted(reply);
         CHECK(next.code == 1 && next.value == 0xFFFFFFFFu);
     }
     REFUSED(reply, 16);
@@ -260,17 +326,19 @@ static void guest_rows(void)
     put(guest, GUEST_STAGE, 3);
     REFUSED(service, 15);
     put(guest, GUEST_STAGE, 0);
-    CHECK(service().code == 0x141);
+    CHECK(accepted(service).code == 0x141);
+    CHECK(accepted(service_due).code == 0x141);
     REFUSED(service, 15);
     /* 18 by HEAD 0 and by HEAD outside, by H outside; it ends the service */
-    evtchn_fifo_fresh_guest(guest, EVTCHN_FIFO_GUEST_SIZE);
-    CHECK(evtchn_fifo_tell(guest, EVTCHN_FIFO_GUEST_SIZE, 1024).code == 0);
+    evtchn_fifo_fresh_guest(GUEST);
+    in.words = 1024;
+    CHECK(accepted(tell).code == 0);
     service();
     in.seen = 0xFFFF0080u;
-    CHECK(service_reply().code == 0x102);
+    CHECK(accepted(service_reply).code == 0x102);
     in.seen = 0x00020005u;
     {
-        evtchn_fifo_next next = service_reply();
+        evtchn_fifo_next next = accepted(service_reply);
         CHECK(next.code == 18 && next.value == 2);
     }
     REFUSED(service_reply, 16);
@@ -279,10 +347,22 @@ static void guest_rows(void)
     service();
     in.seen = 0x180;
     {
-        evtchn_fifo_next next = service_reply();
+        evtchn_fifo_next next = accepted(service_reply);
         CHECK(next.code == 18 && next.value == 1 && guest[64] == 0 && guest[65] == 1 && guest[28] == 0 && guest[29] == 0);
     }
 }
+
+/* the last port is inside so many words, with any lower bits */
+static int masks_within(uint64_t words)
+{
+    evtchn_fifo_next next;
+    in.port = EVTCHN_FIFO_PORTS - 1;
+    in.words = words;
+    next = accepted(mask);
+    return next.code == 0x120 && next.index == EVTCHN_FIFO_PORTS - 1 && next.value == 0x40000000u && next.old == 0;
+}
+
+static int masks(unsigned bit) { return masks_within(UINT64_C(1) << bit) && masks_within((UINT64_C(1) << bit) + 1024); }
 
 static void mask_row(void)
 {
@@ -296,16 +376,44 @@ static void mask_row(void)
     in.words = 200000;
     REFUSED(mask, 3);
     in.port = EVTCHN_FIFO_PORTS - 1;
+    REFUSED_FROM(mask, in.port, 17, 3);
     in.words = EVTCHN_FIFO_PORTS - 1;
     REFUSED(mask, 6);
-    in.words = UINT64_C(0xFFFFFFFFFFFFFFFF);
-    {
-        evtchn_fifo_next next = mask();
-        CHECK(next.code == 0x120 && next.index == EVTCHN_FIFO_PORTS - 1 && next.value == 0x40000000u);
-    }
+    CHECK(holds_from(17, masks));
+    CHECK(masks_within(UINT64_C(0xFFFFFFFFFFFFFFFF)));
 }
 
-int main(void)
+/* after a tell, old words and those told are this number */
+static int tells(uint32_t old, uint64_t told, uint32_t larger)
+{
+    uint8_t words[4];
+    in.words = told;
+    put(guest, GUEST_WORDS, old);
+    put(words, 0, larger);
+    return accepted(tell).code == 0 && memcmp(guest + GUEST_WORDS, words, sizeof words) == 0;
+}
+
+/* what is above 2^32 - 1 counts as that, whatever its lower bits */
+static int tells_most(unsigned bit)
+{
+    uint64_t words = UINT64_C(1) << bit;
+    return tells(1024, words, 0xFFFFFFFFu) && tells(1024, words + 5, 0xFFFFFFFFu) && tells(1024, words + 2048, 0xFFFFFFFFu);
+}
+
+static void tell_row(void)
+{
+    fill();
+    CHECK(tells(0, 0, 0));
+    CHECK(tells(0, 1024, 1024));
+    CHECK(tells(1024, 1023, 1024));
+    CHECK(tells(1024, 0xFFFFFFFEu, 0xFFFFFFFEu));
+    CHECK(tells(1024, 0xFFFFFFFFu, 0xFFFFFFFFu));
+    CHECK(tells(0xFFFFFFFFu, 1024, 0xFFFFFFFFu));
+    CHECK(tells(1024, UINT64_C(0xFFFFFFFFFFFFFFFF), 0xFFFFFFFFu));
+    CHECK(holds_from(32, tells_most));
+}
+
+static void rows(void)
 {
     init_row();
     expand_row();
@@ -317,5 +425,16 @@ int main(void)
     reply_row();
     guest_rows();
     mask_row();
+    tell_row();
+}
+
+int main(void)
+{
+    static const size_t longer[] = {0, 1, 5};
+    size_t k;
+    for (k = 0; k < sizeof longer / sizeof longer[0]; k++) {
+        beyond = longer[k];
+        rows();
+    }
     return check_end();
 }
