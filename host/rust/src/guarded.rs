@@ -7,7 +7,8 @@ use std::ffi::{c_int, c_void};
 const PAGE: usize = 4096;
 const NO_ACCESS: c_int = 0;
 const READ_AND_WRITE: c_int = 3;
-const PRIVATE_AND_ANONYMOUS: c_int = 0x22;
+/// Private and anonymous; no memory is reserved for pages that are not touched.
+const PRIVATE_AND_ANONYMOUS: c_int = 0x4022;
 
 extern "C" {
     fn mmap(

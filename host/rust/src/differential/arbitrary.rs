@@ -1,7 +1,7 @@
 //! Arbitrary records and ledgers: random bytes, short, long, odd, changing between start and reply.
 
 use super::coverage::Coverage;
-use super::lent::edge;
+use super::lent::{edge, ledger_bytes, length_from, random_bytes};
 use super::pair::Pair;
 use crate::boundary::records::{
     put_domain, put_guest, put_number, DOMAIN_SIZE, GIVEN, GUEST_SIZE, GUEST_STAGE, OWNER, STAGE,
@@ -61,22 +61,12 @@ fn random_world(random: &mut Random, model: Model) -> World {
     world
 }
 
-/// A record's length: mostly the right one.
+/// A record's length: mostly enough.
 fn length(random: &mut Random, size: usize) -> usize {
     match random.below(16) {
         0 => random.below(size as u64) as usize,
         1 => size - 1,
-        2 => size + 1,
-        3 => size + random.below(200) as usize,
-        _ => size,
-    }
-}
-
-/// Bytes of any length at either edge, all random.
-fn random_bytes(random: &mut Random, bytes: &mut Guarded, length: usize) {
-    bytes.set(length, edge(random));
-    for byte in bytes.bytes_mut() {
-        *byte = random.word() as u8;
+        _ => length_from(random, size),
     }
 }
 
@@ -124,13 +114,8 @@ fn code(random: &mut Random, list: u64) -> u32 {
     }
 }
 
-/// A ledger's bytes; one in eight has a last odd byte.
+/// The bytes of any ledger.
 pub fn random_ledger(random: &mut Random) -> Vec<u8> {
     let entries = arbitrary::ledger(random);
-    let two = |entry: &crate::model::Entry| entry.bits().to_le_bytes();
-    let mut bytes: Vec<u8> = entries.iter().flat_map(two).collect();
-    if random.once_in(8) {
-        bytes.push(random.word() as u8);
-    }
-    bytes
+    ledger_bytes(random, &entries)
 }

@@ -92,24 +92,19 @@ impl Pair {
     }
 
     /// The bytes behind both records are as before.
-    fn compare_rest(&self) -> Result<(), String> {
-        let rest = |bytes: &[u8], size| bytes.get(size..).unwrap_or(&[]).to_vec();
-        let domain = self.lent.domain.bytes();
-        if domain.len() > DOMAIN_SIZE {
-            let former = rest(&self.kept.domain, DOMAIN_SIZE);
-            expect("bytes behind the record", rest(domain, DOMAIN_SIZE), former)?;
-        }
-        let guest = self.lent.guest.bytes();
-        if guest.len() > GUEST_SIZE {
-            let former = rest(&self.kept.guest, GUEST_SIZE);
-            expect(
-                "bytes behind the guest record",
-                rest(guest, GUEST_SIZE),
-                former,
-            )?;
-        }
-        Ok(())
+    pub(super) fn compare_rest(&self) -> Result<(), String> {
+        let domain = behind(self.lent.domain.bytes(), DOMAIN_SIZE);
+        let former = behind(&self.kept.domain, DOMAIN_SIZE);
+        expect("bytes behind the record", domain, former)?;
+        let guest = behind(self.lent.guest.bytes(), GUEST_SIZE);
+        let former = behind(&self.kept.guest, GUEST_SIZE);
+        expect("bytes behind the guest record", guest, former)
     }
+}
+
+/// The bytes behind a record.
+fn behind(bytes: &[u8], size: usize) -> &[u8] {
+    bytes.get(size..).unwrap_or(&[])
 }
 
 /// An error text where the library's value is not the model's.

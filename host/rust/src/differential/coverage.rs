@@ -17,6 +17,16 @@ const SATURATED: [&str; 4] = [
     "saturated count: stays when a service names an access",
 ];
 
+/// Slices that are longer than needed.
+const LONGER: [&str; 6] = [
+    "longer slice: a domain's record, in a step",
+    "longer slice: a guest's record, in a step",
+    "longer slice: a ledger's last odd byte, in a step",
+    "longer slice: a domain's record, made fresh",
+    "longer slice: a guest's record, made fresh",
+    "longer slice: a ledger's last odd byte, made fresh",
+];
+
 /// What a run met.
 #[derive(Clone, Debug)]
 pub struct Coverage {
@@ -25,6 +35,7 @@ pub struct Coverage {
     given: [[u64; GIVEN]; ROWS.len()],
     points: Vec<u64>,
     saturated: [u64; SATURATED.len()],
+    longer: [u64; LONGER.len()],
     /// For each row, how often a refusal was given while the next one's line held too.
     pairs: [[u64; 8]; ROWS.len()],
     ended: Owner,
@@ -37,6 +48,7 @@ impl Default for Coverage {
             given: [[0; GIVEN]; ROWS.len()],
             points: vec![0; POINTS.len()],
             saturated: [0; SATURATED.len()],
+            longer: [0; LONGER.len()],
             pairs: [[0; 8]; ROWS.len()],
             ended: Owner::Bind,
         }
@@ -58,6 +70,16 @@ impl Coverage {
             }
             _ => {}
         }
+    }
+
+    /// Counts a step's slices.
+    pub fn note_step_slices(&mut self, longer: [bool; 3]) {
+        add_all(&mut self.longer[..3], &longer.map(u64::from));
+    }
+
+    /// Counts the slices of records and a ledger made fresh.
+    pub fn note_fresh_slices(&mut self, longer: [bool; 3]) {
+        add_all(&mut self.longer[3..], &longer.map(u64::from));
     }
 
     fn note_reply(&mut self, before: &Before, seen: u32, next: Next) {
@@ -99,6 +121,7 @@ impl Coverage {
         add_all(self.given.as_flattened_mut(), other.given.as_flattened());
         add_all(&mut self.points, &other.points);
         add_all(&mut self.saturated, &other.saturated);
+        add_all(&mut self.longer, &other.longer);
         add_all(self.pairs.as_flattened_mut(), other.pairs.as_flattened());
     }
 
@@ -122,6 +145,8 @@ impl Coverage {
         counts.extend(points.zip(self.points.iter().copied()));
         let saturated = SATURATED.iter().map(|name| name.to_string());
         counts.extend(saturated.zip(self.saturated));
+        let longer = LONGER.iter().map(|name| name.to_string());
+        counts.extend(longer.zip(self.longer));
         counts
     }
 }

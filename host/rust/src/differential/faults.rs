@@ -1,5 +1,5 @@
-//! The test of the tests: each fault of readings B3, seeded in the model, makes it differ from the
-//! library.
+//! The test of the tests: each fault of readings B3 and each cut of an argument, seeded in the
+//! model, makes it differ from the library.
 
 use super::campaign::{Campaign, Difference, CAMPAIGNS};
 use super::coverage::Coverage;

@@ -2,7 +2,6 @@
 //! the rules; demand 3's four parts and the account after every step.
 
 use super::coverage::Coverage;
-use super::lent::edge;
 use super::pair::Pair;
 use crate::model::claims::Judge;
 use crate::model::histories::Honest;
@@ -19,7 +18,7 @@ pub fn history(
     coverage: &mut Coverage,
 ) -> Result<(), String> {
     let world = Honest::world(model, random);
-    pair.begin_fresh(world, edge(random))?;
+    pair.begin_fresh(world, random, coverage)?;
     let honest = Honest::new(random);
     let begun = match random.once_in(8) {
         true => Vec::new(),

@@ -18,7 +18,7 @@ pub fn history(
     model: Model,
     coverage: &mut Coverage,
 ) -> Result<(), String> {
-    pair.begin_fresh(World::fresh(model, 16, 2), edge(random))?;
+    pair.begin_fresh(World::fresh(model, 16, 2), random, coverage)?;
     if !random.once_in(8) {
         for step in prologue() {
             pair.step(step, coverage)?;

@@ -1,7 +1,8 @@
 //! Inputs of the rows of readings A1 for which chosen lines hold and no others.
 
+use super::lent::odd_byte;
 use super::rows::Row;
-use crate::model::arbitrary::{self, flat_call, flat_service};
+use crate::model::arbitrary::{self, flat_call, flat_service, with_bit_from};
 use crate::model::{
     Call, Domain, Entry, FlatCall, Guest, Owner, Port, Queue, Service, ServiceStage, Side, Stage,
     StageTag, Step,
@@ -54,7 +55,7 @@ impl Input {
             Row::Service => {}
             Row::ServiceReply => input.service_reply(random, lines),
             Row::Mask => input.mask(random, lines),
-            Row::Tell => input.step = Step::Tell(random.bits() >> random.below(64)),
+            Row::Tell => input.step = Step::Tell(told(random)),
         }
         input
     }
@@ -62,25 +63,18 @@ impl Input {
     fn init(&mut self, random: &mut Random, lines: Lines<'_>) {
         self.domain.given = lines.has(9);
         let (frame, frames) = frame(random, lines);
+        let offset = 8 * random.below(504);
+        let bad_offsets = [4, 4_020, 4_028, 4_032, 4_096, 0xFFFF_FFF8, u64::MAX];
         self.step = Step::InitControl {
             vcpu: match lines.has(17) {
-                true => random.pick(&[1, 7, 1 << 31, 1 << 32, u64::MAX]),
+                true => refused(random, 0, 0, &[1, 7, u64::MAX]),
                 false => 0,
             },
             frame,
             frames,
             offset: match lines.has(12) {
-                true => random.pick(&[
-                    4,
-                    4_020,
-                    4_028,
-                    4_032,
-                    4_096,
-                    0xFFFF_FFF8,
-                    1 << 32,
-                    u64::MAX,
-                ]),
-                false => 8 * random.below(504),
+                true => refused(random, offset, 12, &bad_offsets),
+                false => offset,
             },
         };
     }
@@ -103,6 +97,7 @@ impl Input {
         };
         self.ledger = ledger(random, port, lines.has(14), bound);
         self.domain.pages = pages(random, port, lines.has(6));
+        let priority = random.below(16);
         self.step = match row {
             Row::Bind => Step::Bind(port),
             Row::Close => Step::Close(port),
@@ -111,8 +106,8 @@ impl Input {
             _ => Step::SetPriority {
                 port,
                 priority: match lines.has(8) {
-                    true => random.pick(&[16, 17, 255, 256, 1 << 32, u64::MAX]),
-                    false => random.below(16),
+                    true => refused(random, priority, 4, &[16, 17, 255, u64::MAX]),
+                    false => priority,
                 },
             },
         };
@@ -163,26 +158,33 @@ impl Input {
     }
 
     fn mask(&mut self, random: &mut Random, lines: Lines<'_>) {
+        let wide_port = with_bit_from(random, 17, 5);
+        let wide_words = with_bit_from(random, 18, 1024);
         let (port, words) = match (lines.has(3), lines.has(6)) {
             (true, true) => random.pick(&[
                 (0, 0),
-                (PORT_LIMIT, 131_072),
-                ((1 << 32) + 5, 1024),
-                (u64::MAX, u32::MAX),
+                (PORT_LIMIT, PORT_LIMIT),
+                (wide_port, 1024),
+                (u64::MAX, wide_words),
             ]),
             (true, false) => random.pick(&[
                 (0, 1),
                 (0, 1024),
-                (PORT_LIMIT, 131_073),
-                (200_000, u32::MAX),
+                (0, wide_words),
+                (PORT_LIMIT, PORT_LIMIT + 1),
+                (200_000, u64::MAX),
             ]),
             (false, true) => random.pick(&[(1, 0), (1, 1), (1024, 1024), (131_071, 131_071)]),
-            (false, false) => {
-                random.pick(&[(1, 2), (1023, 1024), (131_071, 131_072), (5, u32::MAX)])
-            }
+            (false, false) => random.pick(&[
+                (1, 2),
+                (1023, 1024),
+                (131_071, PORT_LIMIT),
+                (131_071, wide_words),
+                (5, 0xFFFF_FFFF),
+                (5, 1 << 32),
+            ]),
         };
-        self.guest.words = words;
-        self.step = Step::Mask(port);
+        self.step = Step::MaskWithin { port, words };
     }
 }
 
@@ -218,22 +220,42 @@ fn guest(random: &mut Random, lines: Lines<'_>) -> Guest {
 
 /// A frame and the frame count: 11 holds unless the frame is below.
 fn frame(random: &mut Random, lines: Lines<'_>) -> (u64, u64) {
+    let wide_frame = with_bit_from(random, 3, 1);
+    let wide_frames = with_bit_from(random, 3, 2);
     match lines.has(11) {
         true => random.pick(&[
             (0, 0),
             (4, 4),
             (5, 4),
             (1 << 32, 1 << 32),
-            ((1 << 32) + 1, 5),
+            (wide_frame, 5),
             (u64::MAX, u64::MAX),
         ]),
         false => random.pick(&[
             (0, 1),
             (3, 4),
             (1 << 32, (1 << 32) + 1),
+            (5, wide_frames),
             (5, u64::MAX),
             (0, 1 << 32),
         ]),
+    }
+}
+
+/// A number that is refused: one of these, or a legal one with one bit more, from bit `from` up.
+fn refused(random: &mut Random, legal: u64, from: u64, others: &[u64]) -> u64 {
+    match random.once_in(2) {
+        true => random.pick(others),
+        false => with_bit_from(random, from, legal),
+    }
+}
+
+/// A number of words: any, or one above 32 bits with few lower bits.
+fn told(random: &mut Random) -> u64 {
+    let few = random.pick(&[0, 5, 1024, 131_072]);
+    match random.once_in(2) {
+        true => random.bits() >> random.below(64),
+        false => with_bit_from(random, 32, few),
     }
 }
 
@@ -248,7 +270,15 @@ fn small_port(random: &mut Random) -> u64 {
 
 fn start_port(random: &mut Random, lines: Lines<'_>) -> u64 {
     match (lines.has(3), lines.has(14)) {
-        (true, true) => random.pick(&[0, PORT_LIMIT, PORT_LIMIT + 5, (1 << 32) + 5, u64::MAX]),
+        (true, true) => {
+            let legal = small_port(random);
+            refused(
+                random,
+                legal,
+                17,
+                &[0, PORT_LIMIT, PORT_LIMIT + 5, u64::MAX],
+            )
+        }
         (true, false) if random.once_in(256) => PORT_LIMIT,
         (true, false) => 0,
         (false, _) => small_port(random),
@@ -272,9 +302,7 @@ fn ledger(random: &mut Random, port: u64, missing: bool, bound: bool) -> Vec<u8>
         };
         bytes[2 * port as usize..][..2].copy_from_slice(&entry.bits().to_le_bytes());
     }
-    if random.once_in(4) {
-        bytes.push(random.word() as u8);
-    }
+    odd_byte(random, &mut bytes);
     bytes
 }
 

@@ -6,6 +6,7 @@
 //! - `honest`, `hostile`, `refusals`, `arbitrary`, `stages`: one history each, from a seed;
 //!   `inputs`: what `refusals` tries
 //! - `campaign`: many histories; `faults`: the test of the tests
+//! - `large`: slices of more than 2^32 bytes
 
 pub mod arbitrary;
 pub mod branches;
@@ -16,6 +17,7 @@ pub mod faults;
 pub mod honest;
 pub mod hostile;
 pub mod inputs;
+pub mod large;
 pub mod lent;
 pub mod pair;
 pub mod refusals;

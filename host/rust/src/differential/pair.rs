@@ -3,12 +3,13 @@
 
 use super::compare::expect;
 use super::coverage::Coverage;
-use super::lent::{uses, Lent, Uses};
+use super::lent::{edge, handed_back, ledger_bytes, uses, Lent, Uses};
 use crate::boundary::records::{self, DOMAIN_SIZE, GUEST_SIZE};
 use crate::boundary::{calls, ledger, Encoded};
 use crate::guarded::Edge;
 use crate::model::machine::{log, Stepped};
 use crate::model::{Answer, Domain, Entry, Event, Guest, Model, Next, Side, Step, World};
+use crate::random::Random;
 
 /// What a world held before a step, as far as the step can look at it.
 #[derive(Clone, Copy)]
@@ -58,33 +59,40 @@ impl Default for Pair {
 impl Pair {
     /// Begins a history: the library's bytes become the records and the ledger of `world`, and its
     /// records those that the bytes are.
-    pub fn begin(&mut self, mut world: World, edge: Edge) {
-        self.lent.domain.set(DOMAIN_SIZE, edge);
+    pub fn begin(&mut self, mut world: World, random: &mut Random) {
+        self.lent.random_records(random);
         records::put_domain(self.lent.domain.bytes_mut(), &world.domain);
-        self.lent.guest.set(GUEST_SIZE, edge);
         records::put_guest(self.lent.guest.bytes_mut(), &world.guest);
         world.domain = records::domain(self.lent.domain.bytes());
         world.guest = records::guest(self.lent.guest.bytes());
-        let bytes = ledger_bytes(&world.ledger);
+        let bytes = ledger_bytes(random, &world.ledger);
         self.restart(world);
-        self.lend_bytes(&bytes, edge);
+        self.lend_bytes(&bytes, edge(random));
     }
 
     /// Begins a history whose records the library makes fresh.
-    pub fn begin_fresh(&mut self, world: World, edge: Edge) -> Result<(), String> {
-        self.lent.domain.set(DOMAIN_SIZE, edge);
-        self.lent.guest.set(GUEST_SIZE, edge);
-        self.lent.ledger.set(2 * world.ledger.len(), edge);
+    pub fn begin_fresh(
+        &mut self,
+        world: World,
+        random: &mut Random,
+        coverage: &mut Coverage,
+    ) -> Result<(), String> {
+        self.lent.random_records(random);
+        self.ledger = ledger_bytes(random, &world.ledger);
+        self.lent.random_entries(random, &self.ledger);
+        self.restart(world);
+        self.keep();
         let codes = [
             calls::fresh_domain(self.lent.domain.bytes_mut()),
             calls::fresh_guest(self.lent.guest.bytes_mut()),
             calls::fresh_ledger(self.lent.ledger.bytes_mut()),
         ];
         expect("codes of the fresh records", codes, [0; 3])?;
-        self.ledger = ledger_bytes(&world.ledger);
-        self.restart(world);
         self.compare_records()?;
-        self.compare_ledger()
+        self.compare_rest()?;
+        self.compare_ledger()?;
+        coverage.note_fresh_slices(self.lent.longer());
+        Ok(())
     }
 
     /// Begins a history with the records that the lent bytes are.
@@ -137,10 +145,11 @@ impl Pair {
         let seen = seen(step, &stepped);
         self.events.extend_from_slice(&stepped.events);
         let encoded = self.lent.step(step, seen, words);
-        let masked = matches!(step, Step::Mask(_));
+        let masked = matches!(step, Step::Mask(_) | Step::MaskWithin { .. });
         self.compare(masked, &stepped, encoded, port)
             .map_err(|text| format!("{step:?}, word handed back {seen:08X}: {text}"))?;
         coverage.note(&before, step, seen, &stepped);
+        coverage.note_step_slices(self.lent.longer());
         Ok(stepped)
     }
 
@@ -162,11 +171,7 @@ impl Pair {
 
     /// A record too short gives 64 and is left alone, and so is the ledger.
     fn short_step(&mut self, step: Step) -> Result<Stepped, String> {
-        let seen = match step {
-            Step::HandBack(_, seen) => seen,
-            _ => 0,
-        };
-        let encoded = self.lent.step(step, seen, 0);
+        let encoded = self.lent.step(step, handed_back(step), 0);
         expect("short record", encoded, Encoded::TOO_SHORT)?;
         self.compare_unchanged()?;
         self.compare_ledger()?;
@@ -221,13 +226,7 @@ impl Pair {
 /// The word that a step's reply hands back.
 fn seen(step: Step, stepped: &Stepped) -> u32 {
     match (step, stepped.events.first()) {
-        (Step::HandBack(_, seen), _) => seen,
         (Step::Access(_), Some(Event::Accessed(accessed))) => accessed.seen,
-        _ => 0,
+        _ => handed_back(step),
     }
-}
-
-fn ledger_bytes(entries: &[Entry]) -> Vec<u8> {
-    let two = |entry: &Entry| entry.bits().to_le_bytes();
-    entries.iter().flat_map(two).collect()
 }

@@ -1,5 +1,6 @@
 //! Refusal storms: for each adjacent pair of each row of readings A1 an input for which both lines
 //! hold and none before, which gives the first; then one without the first, which gives the second.
+//! Then one of each row for which none holds.
 
 use super::coverage::{refusals, Coverage};
 use super::inputs::{Input, Lines};
@@ -30,6 +31,7 @@ pub fn history(
             try_lines(pair, random, model, coverage, row, &holds)?;
             try_lines(pair, random, model, coverage, row, &holds[1..])?;
         }
+        try_lines(pair, random, model, coverage, row, &[])?;
     }
     Ok(())
 }
@@ -47,7 +49,7 @@ fn try_lines(
     let mut world = World::fresh(model, 0, 0);
     world.domain = input.domain;
     world.guest = input.guest;
-    pair.begin(world, edge(random));
+    pair.begin(world, random);
     pair.lend_bytes(&input.ledger, edge(random));
     unlisted_codes(random, pair);
     let stepped = pair.step(input.step, coverage)?;

@@ -72,7 +72,7 @@ pub fn row(before: &Before, step: Step, ended: Owner) -> Row {
         Step::Raise(_) => Row::Raise,
         Step::Unmask(_) => Row::Unmask,
         Step::Service => Row::Service,
-        Step::Mask(_) => Row::Mask,
+        Step::Mask(_) | Step::MaskWithin { .. } => Row::Mask,
         Step::Tell(_) => Row::Tell,
         Step::Access(Side::Guest) | Step::HandBack(Side::Guest, _) => Row::ServiceReply,
         Step::Access(Side::Hypervisor) | Step::HandBack(Side::Hypervisor, _) => {

@@ -2,7 +2,6 @@
 //! replies with words chosen so that every branch is met, until both calls have ended.
 
 use super::coverage::Coverage;
-use super::lent::edge;
 use super::pair::Pair;
 use crate::model::arbitrary::word;
 use crate::model::{
@@ -31,7 +30,7 @@ pub fn history(
     world.domain = domain(random, port);
     world.guest = guest(random);
     world.ledger = ledger(random, port);
-    pair.begin(world, edge(random));
+    pair.begin(world, random);
     while pair.length() < LENGTH && under_way(&pair.world) {
         let side = random.pick(&[Side::Hypervisor, Side::Guest]);
         let seen = match side {

@@ -179,8 +179,8 @@ pub fn hostile_step(random: &mut Random, world: &World) -> Step {
         10 => Step::Access(Side::Hypervisor),
         11 => Step::Access(Side::Guest),
         12 => Step::Service,
-        13 => Step::Mask(argument(random)),
-        14 => Step::Tell(random.pick(&[0, 1023, 1024, 2048, 200_000, 1 << 33])),
+        13 => mask(random),
+        14 => Step::Tell(words(random)),
         _ => start(random),
     }
 }
@@ -209,33 +209,58 @@ fn word_or_index(random: &mut Random) -> u32 {
     }
 }
 
-/// A port as an argument: any 64-bit number.
-fn argument(random: &mut Random) -> u64 {
-    if random.once_in(10) {
-        (1 << 32) + u64::from(port(random))
-    } else {
-        u64::from(port(random))
+/// A number with one bit more, from bit `from` up.
+pub fn with_bit_from(random: &mut Random, from: u64, number: u64) -> u64 {
+    number | 1 << (from + random.below(64 - from))
+}
+
+/// An argument of 64 bits: one of the choices, at times with one bit more in the upper half.
+fn argument(random: &mut Random, choices: &[u64]) -> u64 {
+    let number = random.pick(choices);
+    match random.once_in(10) {
+        true => with_bit_from(random, 32, number),
+        false => number,
+    }
+}
+
+fn port_argument(random: &mut Random) -> u64 {
+    let port = port(random).into();
+    argument(random, &[port])
+}
+
+fn words(random: &mut Random) -> u64 {
+    argument(random, &[0, 1023, 1024, 2048, 200_000, 1 << 32])
+}
+
+fn mask(random: &mut Random) -> Step {
+    let port = port_argument(random);
+    match random.once_in(2) {
+        true => Step::Mask(port),
+        false => Step::MaskWithin {
+            port,
+            words: words(random),
+        },
     }
 }
 
 fn start(random: &mut Random) -> Step {
-    let port = argument(random);
+    let port = port_argument(random);
     match random.below(7) {
         0 => Step::InitControl {
-            vcpu: random.pick(&[0, 0, 0, 1, 1 << 32]),
-            frame: random.below(4),
-            frames: random.pick(&[2, 4, u64::MAX]),
-            offset: random.pick(&[0, 8, 4_020, 4_024, 4_032, 1 << 32]),
+            vcpu: argument(random, &[0, 0, 0, 1]),
+            frame: argument(random, &[0, 1, 2, 3]),
+            frames: argument(random, &[2, 4, u64::MAX]),
+            offset: argument(random, &[0, 8, 4_020, 4_024, 4_032]),
         },
         1 => Step::ExpandArray {
-            frame: random.below(4),
-            frames: random.pick(&[2, 4, u64::MAX]),
+            frame: argument(random, &[0, 1, 2, 3]),
+            frames: argument(random, &[2, 4, u64::MAX]),
         },
         2 => Step::Bind(port),
         3 => Step::Close(port),
         4 => Step::SetPriority {
             port,
-            priority: random.pick(&[0, 3, 7, 15, 16, 256, 1 << 32]),
+            priority: argument(random, &[0, 3, 7, 15, 16, 256]),
         },
         5 => Step::Raise(port),
         _ => Step::Unmask(port),

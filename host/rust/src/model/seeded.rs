@@ -54,10 +54,26 @@ pub enum Faults {
     TellSmaller,
     /// A tail at the array's end counts.
     TailAtEnd,
+    /// A port is cut to 32 bits.
+    PortCut,
+    /// A priority is cut to 32 bits.
+    PriorityCut,
+    /// A VCPU is cut to 32 bits.
+    VcpuCut,
+    /// A frame is cut to 32 bits.
+    FrameCut,
+    /// A frame count is cut to 32 bits.
+    FramesCut,
+    /// An offset is cut to 32 bits.
+    OffsetCut,
+    /// A mask's number of words is cut to 32 bits.
+    MaskWordsCut,
+    /// The number of words told is cut to 32 bits.
+    ToldWordsCut,
 }
 
 impl Faults {
-    /// Every fault with the words of the list it stands in.
+    /// Every fault of a rule with the words of the list it stands in.
     pub const ALL: [(Faults, &'static str); 20] = [
         (Faults::R1Operand, "R1 operand 80000000 -> 40000000"),
         (Faults::U1Operand, "U1 operand BFFFFFFF -> 7FFFFFFF"),
@@ -80,6 +96,18 @@ impl Faults {
         (Faults::TellSmaller, "tell min for max"),
         (Faults::TailAtEnd, "effective tail < -> <="),
     ];
+
+    /// Every argument of 64 bits, cut.
+    pub const CUTS: [(Faults, &'static str); 8] = [
+        (Faults::PortCut, "port cut to 32 bits"),
+        (Faults::PriorityCut, "priority cut to 32 bits"),
+        (Faults::VcpuCut, "VCPU cut to 32 bits"),
+        (Faults::FrameCut, "frame cut to 32 bits"),
+        (Faults::FramesCut, "frame count cut to 32 bits"),
+        (Faults::OffsetCut, "offset cut to 32 bits"),
+        (Faults::MaskWordsCut, "mask's words cut to 32 bits"),
+        (Faults::ToldWordsCut, "tell's words cut to 32 bits"),
+    ];
 }
 
 impl Model {
@@ -93,6 +121,11 @@ impl Model {
         } else {
             right
         }
+    }
+
+    /// An argument: all its 64 bits.
+    pub(super) fn whole(&self, fault: Faults, number: u64) -> u64 {
+        self.choose(fault, number % (1 << 32), number)
     }
 
     /// R1's operand: PENDING.

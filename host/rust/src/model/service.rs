@@ -7,6 +7,7 @@ use super::decisions::{
 };
 use super::guest::{Guest, Service, ServiceStage};
 use super::kinds::{Port, Queue};
+use super::seeded::Faults;
 use super::word::EventWord;
 use super::Model;
 
@@ -121,6 +122,7 @@ impl Model {
 
     /// mask: 3, then 6 by the guest's number of words; its access is named with answer 0.
     pub fn mask(&self, port: u64, words: u64) -> Masking {
+        let words = self.whole(Faults::MaskWordsCut, words);
         match self.valid_port(port) {
             Err(refusal) => Masking::Refused(refusal),
             Ok(_) if port >= words => Masking::Refused(Answer::OutsideArray),
@@ -130,7 +132,8 @@ impl Model {
 
     /// tell: the number of words becomes the larger of old and told.
     pub fn tell(&self, guest: &mut Guest, words: u64) -> Next {
-        guest.words = self.told_words(guest.words, saturated(words));
+        let words = saturated(self.whole(Faults::ToldWordsCut, words));
+        guest.words = self.told_words(guest.words, words);
         Next::at_once(Answer::Done)
     }
 }

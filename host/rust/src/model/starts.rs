@@ -5,6 +5,7 @@ use super::answer::{Answer, Next};
 use super::domain::{Call, Domain, Owner, Stage};
 use super::entry::Entry;
 use super::kinds::{Port, Priority, QUEUES};
+use super::seeded::Faults;
 use super::word::LINK_BITS;
 use super::Model;
 
@@ -27,10 +28,11 @@ impl Model {
         frames: u64,
         offset: u64,
     ) -> Next {
+        let vcpu = self.whole(Faults::VcpuCut, vcpu);
         let checked = unless(domain.call.is_some(), Answer::UnderWay)
             .and_then(|()| unless(vcpu != 0, Answer::BadVcpu))
             .and_then(|()| unless(domain.given, Answer::AlreadyGiven))
-            .and_then(|()| unless(frame >= frames, Answer::BadFrame))
+            .and_then(|()| unless(self.bad_frame(frame, frames), Answer::BadFrame))
             .and_then(|()| unless(self.bad_offset(offset), Answer::BadOffset));
         Next::from_start(checked.map(|()| {
             domain.given = true;
@@ -42,7 +44,7 @@ impl Model {
     pub fn expand_array(&self, domain: &mut Domain, frame: u64, frames: u64) -> Next {
         let checked = free_and_given(domain)
             .and_then(|()| unless(domain.pages >= self.page_limit(), Answer::PagesFull))
-            .and_then(|()| unless(frame >= frames, Answer::BadFrame));
+            .and_then(|()| unless(self.bad_frame(frame, frames), Answer::BadFrame));
         Next::from_start(checked.map(|()| {
             domain.pages += 1;
             Next::at_once(Answer::Done)
@@ -98,6 +100,7 @@ impl Model {
         port: u64,
         priority: u64,
     ) -> Next {
+        let priority = self.whole(Faults::PriorityCut, priority);
         let checked = self
             .known_port(domain, ledger, port, Answer::NoEntry)
             .and_then(|port| {
@@ -132,7 +135,12 @@ impl Model {
         Ok(self.begin(domain, owner, stage, port))
     }
 
+    fn bad_frame(&self, frame: u64, frames: u64) -> bool {
+        self.whole(Faults::FrameCut, frame) >= self.whole(Faults::FramesCut, frames)
+    }
+
     fn bad_offset(&self, offset: u64) -> bool {
+        let offset = self.whole(Faults::OffsetCut, offset);
         !offset.is_multiple_of(8) || offset > self.offset_limit()
     }
 
@@ -159,6 +167,7 @@ impl Model {
 
     /// 3: port 0 or at least 131,072.
     pub(super) fn valid_port(&self, port: u64) -> Result<Port, Answer> {
+        let port = self.whole(Faults::PortCut, port);
         unless(port == 0 || port >= self.port_limit(), Answer::BadPort)?;
         Ok(Port(port as u32))
     }

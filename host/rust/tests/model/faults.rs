@@ -147,3 +147,13 @@ fn every_fault_is_caught() {
         );
     }
 }
+
+#[test]
+fn every_cut_is_caught() {
+    for (fault, what) in Faults::CUTS {
+        let readings = failing(Model::new(fault), &reading_cases());
+        assert!(!readings.is_empty(), "{what}: no scripted run differs");
+        let arbitrary = arbitrary_difference(fault);
+        assert!(arbitrary.is_some(), "{what}: no random run differs");
+    }
+}

@@ -190,14 +190,17 @@ fn a5_9(model: Model) -> Outcome {
     same!(run.call(Step::Mask(wide + 5)), (3, 0));
     let priority = wide + 3;
     same!(run.call(Step::SetPriority { port: 5, priority }), (8, 0));
-    let init = |vcpu, offset| Step::InitControl {
+    let init = |vcpu, frame, frames, offset| Step::InitControl {
         vcpu,
-        frame: 1,
-        frames: 8,
+        frame,
+        frames,
         offset,
     };
-    same!(Run::fresh(model).call(init(wide, 0)), (17, 0));
-    same!(Run::fresh(model).call(init(0, wide)), (12, 0));
+    same!(Run::fresh(model).call(init(wide, 1, 8, 0)), (17, 0));
+    same!(Run::fresh(model).call(init(0, wide + 1, 8, 0)), (11, 0));
+    same!(Run::fresh(model).call(init(0, 1, wide + 1, wide)), (12, 0));
+    let (port, words) = (5, wide + 5);
+    same!(run.call(Step::MaskWithin { port, words }), (0, 1));
     run.call(Step::Tell(wide + 7));
     same!(run.world.guest.words, u32::MAX);
     Ok(())

@@ -107,7 +107,7 @@ pub fn run_for(seed: u64, minutes: u64, report: &mut Report) {
 pub fn try_faults(report: &mut Report) {
     let mut pair = Pair::default();
     println!("{}", head());
-    for (fault, words) in Faults::ALL {
+    for (fault, words) in Faults::ALL.into_iter().chain(Faults::CUTS) {
         let tried = try_fault(&mut pair, fault, words);
         report.count(tried.caught());
         let mark = if tried.caught() { "" } else { " NOT CAUGHT" };

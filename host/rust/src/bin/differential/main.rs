@@ -13,6 +13,7 @@ mod threads;
 
 use evtchn_fifo_host::boundary::{calls, records};
 use evtchn_fifo_host::crash;
+use evtchn_fifo_host::differential::large;
 use report::Report;
 use settings::Settings;
 use std::process::ExitCode;
@@ -31,6 +32,7 @@ fn main() -> ExitCode {
     crash::install();
     let mut report = Report::default();
     report.check("layout", layout);
+    report.check("slices above 2^32 bytes", || large::check(settings.seed));
     match settings.minutes {
         Some(minutes) => fuzz(&settings, minutes, &mut report),
         None => test(&settings, &mut report),

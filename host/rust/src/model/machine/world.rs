@@ -37,6 +37,8 @@ pub enum Step {
     Service,
     /// A mask with its access, by the guest record's number of words.
     Mask(u64),
+    /// A mask with its access, by any number of words.
+    MaskWithin { port: u64, words: u64 },
     /// A tell.
     Tell(u64),
     /// The access of the side's call under way, with its reply.
@@ -101,7 +103,8 @@ impl World {
             Step::Raise(port) => model.raise(domain, ledger, port),
             Step::Unmask(port) => model.unmask(domain, ledger, port),
             Step::Service => return given(Side::Guest, model.service(&mut self.guest)),
-            Step::Mask(port) => return self.mask(port),
+            Step::Mask(port) => return self.mask(port, self.guest.words.into()),
+            Step::MaskWithin { port, words } => return self.mask(port, words),
             Step::Tell(words) => return self.tell(words),
             Step::Access(side) => return self.access(side),
             Step::HandBack(side, seen) => return self.hand_back(side, seen, false),
@@ -119,8 +122,8 @@ impl World {
         next
     }
 
-    fn mask(&mut self, port: u64) -> Stepped {
-        let masking = self.model.mask(port, u64::from(self.guest.words));
+    fn mask(&mut self, port: u64, words: u64) -> Stepped {
+        let masking = self.model.mask(port, words);
         let mut events = Vec::new();
         if let Masking::Named(access) = masking {
             events.push(Event::Accessed(Accessed {
