@@ -50,6 +50,11 @@ use Rattle.evtchn_fifo.specs.Encoded.{encodedNext, encodedAnswer}
 use Rattle.exported.specs.Decoded.{decodedNext, decodedAnswer}
 use Rattle.exported.proofs.Decoding.{access-back, decodes-encoded}
 
+-- `unfolding codes` opens what encodes an answer and what reads it back
+unfoldable codes : ℕ
+unfolding encodedNext encodedAnswer codeOf decodedNext decodedAnswer
+codes = 0
+
 abbrev pub ReadsBack : Next → Type 0
 ReadsBack x = decodedNext (encodedNext x) ≡ x
 
@@ -74,7 +79,7 @@ data Accepts : Acceptance → Type 0 where
   accepts : Accepts acceptance.Accepted
 
 accepts-init : (o : Owner) (given : Bool) (vcpu frame frames offset : ℕ) → Accepts (acceptInit o given vcpu frame frames offset)
-unfolding acceptInit encodedNext decodedNext decodedAnswer encodedAnswer codeOf
+unfolding acceptInit codes
 accepts-init o given vcpu frame frames offset =
     choose Accepts (not (isFree o)) (refuses (λ k. refl))
     (choose Accepts (not (eqb vcpu 0)) (refuses (λ k. refl))
@@ -83,7 +88,7 @@ accepts-init o given vcpu frame frames offset =
     (choose Accepts (not (isOffset offset)) (refuses (λ k. refl)) accepts))))
 
 accepts-expand : (n : ℕ) (o : Owner) (given : Bool) (pages frame frames : ℕ) → Accepts (acceptExpand n o given pages frame frames)
-unfolding acceptExpand encodedNext decodedNext decodedAnswer encodedAnswer codeOf
+unfolding acceptExpand codes
 accepts-expand n o given pages frame frames =
     choose Accepts (not (isFree o)) (refuses (λ k. refl))
     (choose Accepts (not given) (refuses (λ k. refl))
@@ -96,7 +101,7 @@ init-back n some d (refuses h) = h 0
 init-back n some d accepts = decodes-encoded .answer (LinkBits n) 0 (λ e. some (cc))
 
 expand-back : (d : Domain) {x : Acceptance} → Accepts x → ReadsBack (expandArrayOf d x .next)
-unfolding encodedNext decodedNext decodedAnswer encodedAnswer codeOf
+unfolding codes
 expand-back d (refuses h) = h 0
 expand-back d accepts = refl
 
@@ -112,12 +117,12 @@ data Begins : Begin → Type 0 where
   settles : {e : ℕ} → Begins (begin.Settled e)
 
 entry-back : (found : Lookup) → AcceptsPort (entryOr14 found)
-unfolding encodedNext decodedNext decodedAnswer encodedAnswer codeOf
+unfolding codes
 entry-back Missing = refusesPort (λ k. refl)
 entry-back (Found e) = acceptsPort
 
 accepts-port : (n : ℕ) (o : Owner) (given : Bool) (p : Port) (found : Lookup) → AcceptsPort (acceptPort n o given p found)
-unfolding acceptPort encodedNext decodedNext decodedAnswer encodedAnswer codeOf
+unfolding acceptPort codes
 accepts-port n o given p found =
     choose AcceptsPort (not (isFree o)) (refusesPort (λ k. refl))
     (choose AcceptsPort (not given) (refusesPort (λ k. refl))
@@ -125,27 +130,27 @@ accepts-port n o given p found =
 
 module _ (pages : ℕ) (p : Port) where
   begins-bind : {x : PortAcceptance} → AcceptsPort x → Begins (bindEntry pages p x)
-  unfolding encodedNext decodedNext decodedAnswer encodedAnswer codeOf
+  unfolding codes
   begins-bind (refusesPort h) = refusesCall h
   begins-bind (acceptsPort {e}) = choose Begins (bound e) (refusesCall (λ k. refl)) (choose Begins (inArray pages (p .0)) begins settles)
 
   begins-close : {x : PortAcceptance} → AcceptsPort x → Begins (closeEntry pages p x)
-  unfolding encodedNext decodedNext decodedAnswer encodedAnswer codeOf
+  unfolding codes
   begins-close (refusesPort h) = refusesCall h
   begins-close (acceptsPort {e}) = choose Begins (not (bound e)) (refusesCall (λ k. refl)) (choose Begins (inArray pages (p .0)) begins settles)
 
   begins-link : (starts : Owner) {x : PortAcceptance} → AcceptsPort x → Begins (linkEntry starts pages p x)
-  unfolding encodedNext decodedNext decodedAnswer encodedAnswer codeOf
+  unfolding codes
   begins-link starts (refusesPort h) = refusesCall h
   begins-link starts (acceptsPort {e}) = choose Begins (not (bound e)) (refusesCall (λ k. refl)) (choose Begins (not (inArray pages (p .0))) (refusesCall (λ k. refl)) begins)
 
 begins-priority : (r : Priority) {x : PortAcceptance} → AcceptsPort x → Begins (priorityEntry r x)
-unfolding encodedNext decodedNext decodedAnswer encodedAnswer codeOf
+unfolding codes
 begins-priority r (refusesPort h) = refusesCall h
 begins-priority r acceptsPort = choose Begins (ltb 15 (r .0)) (refusesCall (λ k. refl)) settles
 
 done-back : Plain Done
-unfolding encodedNext decodedNext decodedAnswer encodedAnswer codeOf
+unfolding codes
 done-back count = refl
 
 started-back : (n : ℕ) (d : Domain) (ledger : List ℕ) (p : Port) {b : Begin} → Begins b → ReadsBack (started n d ledger p b .outcome .next)
@@ -160,11 +165,11 @@ abbrev Moves : Move → Type 0
 Moves m = Plain (m .answer)
 
 tries-back : (c : Call) (e tries seen : ℕ) → Moves (triesCas c e tries seen)
-unfolding triesCas encodedNext decodedNext decodedAnswer encodedAnswer codeOf
+unfolding triesCas codes
 tries-back c e tries seen = choose Moves (not (has Linked seen)) (λ k. refl) (choose Moves (leb 4 tries) (λ k. refl) (λ k. refl))
 
 first-back : (o : Owner) (c : Call) (e seen : ℕ) → Moves (replyFirstOf o c e seen)
-unfolding replyBind replyClose replyR1 replyU1 encodedNext decodedNext decodedAnswer encodedAnswer codeOf
+unfolding replyBind replyClose replyR1 replyU1 codes
 first-back owner.None c e seen = λ k. refl
 first-back owner.Bind c e seen = choose Moves (has Linked seen) (λ k. refl) (λ k. refl)
 first-back owner.Close c e seen = λ k. refl
@@ -172,7 +177,7 @@ first-back owner.Raise c e seen = choose Moves (has Masked seen) (λ k. refl) (c
 first-back owner.Unmask c e seen = choose Moves (not (has Pending seen)) (λ k. refl) (choose Moves (has Linked seen) (λ k. refl) (λ k. refl))
 
 staged-back : (s : Stage) (c : Call) (e : ℕ) (v : View) (seen : ℕ) → Moves (stagedAt s c e v seen)
-unfolding replyFirst replyR2 replyR4 replyR5 replyR6 encodedNext decodedNext decodedAnswer encodedAnswer codeOf
+unfolding replyFirst replyR2 replyR4 replyR5 replyR6 codes
 staged-back First c e v seen = first-back (c .owner) c e seen
 staged-back R2 c e v seen = choose Moves (has Linked seen) (λ k. refl) (λ k. refl)
 staged-back R3 c e v seen = tries-back c e 0 seen
@@ -181,7 +186,7 @@ staged-back R5 c e v seen = λ k. refl
 staged-back R6 c e v seen = choose Moves (isReady (c .queue .0) seen) (λ k. refl) (λ k. refl)
 
 found-back : (n : ℕ) (d : Domain) (ledger : List ℕ) (seen : ℕ) (f : Lookup) → ReadsBack (replyFound n d ledger seen f .outcome .next)
-unfolding staged encodedNext decodedNext decodedAnswer encodedAnswer codeOf
+unfolding staged codes
 found-back n d ledger seen Missing = refl
 found-back n d ledger seen (Found e) = next-back n (moved d _) _ _ (staged-back (d .call .stage) (d .call) e (viewOf d e) seen)
 
@@ -189,7 +194,7 @@ abbrev Turns : Turn → Type 0
 Turns t = ReadsBack (t .outcome .next)
 
 reply-back : (n : ℕ) (d : Domain) (ledger : List ℕ) (seen : ℕ) → Turns (replyOf n d ledger seen)
-unfolding replyOf encodedNext decodedNext decodedAnswer encodedAnswer codeOf
+unfolding replyOf codes
 reply-back n d ledger seen = choose Turns (isFree (d .call .owner)) refl (found-back n d ledger seen (entryAt ledger (d .call .port .0)))
 
 -- ---- every turn
@@ -209,7 +214,7 @@ turn-back n some d (Starts s ledger) = start-back n some d ledger s
 turn-back n some d (Replies seen ledger) = reply-back n d ledger seen
 
 pub due-back : (n : ℕ) (d : Domain) → ReadsBack (dueOf n d)
-unfolding encodedNext decodedNext decodedAnswer encodedAnswer codeOf
+unfolding codes
 due-back n d = next-back n d NoCall 0 (λ k. refl)
 
 -- ---- the guest's side
@@ -218,11 +223,11 @@ abbrev GuestMoves : GuestMove → Type 0
 GuestMoves m = Plain (m .answer)
 
 index-back : (c : GuestCall) (ready words : ℕ) (q : Queue) (index : ℕ) → GuestMoves (takesIndex c ready words q index)
-unfolding takesIndex encodedNext decodedNext decodedAnswer encodedAnswer codeOf
+unfolding takesIndex codes
 index-back c ready words q index = choose GuestMoves (eqb index 0) (λ k. refl) (choose GuestMoves (leb words index) (λ k. refl) (λ k. refl))
 
 guest-staged-back : (n : ℕ) (s : GuestStage) (c : GuestCall) (ready words head seen : ℕ) → GuestMoves (guestStagedAt n s c ready words head seen)
-unfolding replyG0 replyG2 replyG3 replyG4 encodedNext decodedNext decodedAnswer encodedAnswer codeOf
+unfolding replyG0 replyG2 replyG3 replyG4 codes
 guest-staged-back n None c ready words head seen = λ k. refl
 guest-staged-back n G0 c ready words head seen =
     choose GuestMoves (eqb (merged ready seen) 0) (λ k. refl) (choose GuestMoves (eqb head 0) (λ k. refl) (index-back c (merged ready seen) words _ head))
@@ -235,7 +240,7 @@ abbrev GuestTurns : GuestOutcome → Type 0
 GuestTurns o = ReadsBack (o .next)
 
 pub guest-turn-back : (n : ℕ) (g : Guest) (act : GuestAct) → ReadsBack (guestTurnOf n g act .next)
-unfolding serviceStart serviceReply tellOf guestStaged encodedNext decodedNext decodedAnswer encodedAnswer codeOf
+unfolding serviceStart serviceReply tellOf guestStaged codes
 guest-turn-back n g Serves = choose GuestTurns (isServing (g .call .stage)) refl (guest-next-back n (withGuestCall g _) Done 0 (λ k. refl))
 guest-turn-back n g (ServiceReplies seen) =
     choose GuestTurns (not (isServing (g .call .stage))) refl
@@ -243,5 +248,5 @@ guest-turn-back n g (ServiceReplies seen) =
 guest-turn-back n g (Tells words) = choose GuestTurns (ltb (g .words) words) refl refl
 
 pub service-due-back : (n : ℕ) (g : Guest) → ReadsBack (guestDueOf n g)
-unfolding encodedNext decodedNext decodedAnswer encodedAnswer codeOf
+unfolding codes
 service-due-back n g = guest-next-back n g NoCall 0 (λ k. refl)
