@@ -35,12 +35,10 @@ pub fn cleared(local: u32, queue: Queue) -> u32
 pub fn lowest(local: u32) -> Queue
     ensures { λ r. ⌜ r ≡ queueAt (lowest local) ⌝ }
 {
-    let mut q = 0;
-    while q < 16 {
-        if (local >> q) % 2 == 1 {
-            return Queue(q);
-        }
-        q += 1;
+    let bits = local % 0x1_0000;
+    let none = bits == 0;
+    if none {
+        return Queue(16);
     }
-    Queue(q)
+    Queue(u32::trailing_zeros(bits))
 }
