@@ -23,7 +23,9 @@
  *
  * Any bytes of the right length are a record: no contents make it invalid, and nothing traps. A refusal leaves every byte of
  * record and ledger as it was, but for 7, which ends the bind under way, and 18, which ends the service and leaves the head and
- * the local ready bit of its queue 0 (the other bits that its swap of READY took stay).
+ * the local ready bit of its queue 0 (the other bits that its swap of READY took stay). A record that was made fresh and that these
+ * functions alone changed names no access outside the array and the control block, whatever words were handed back; other bytes may
+ * name any, and evtchn_fifo_perform makes none outside.
  *
  * After EVTCHN_FIFO_NO_ENTRY (14) at a reply the call is still under way and its access has been made: lend a longer ledger and
  * hand back the same word. Never perform the access again: it would see its own LINKED or READY bit, and the event or its
@@ -49,7 +51,7 @@ extern "C" {
 
 /*
  * A domain's record, in words of four bytes, the lowest byte first:
- *     0 given (0, or any other number)   4 pages   8 to 71 tails of queues 0 to 15
+ *     0 given (0, or any other number)   4 pages   8 to 71 tails of queues 0 to 15 (0: none)
  *     call under way: 72 owner (1 bind, 2 close, 3 raise, 4 unmask)   76 stage (0 the first access, 1 R2, 2 R3, 3 R4, 4 R5, 5 R6)
  *     80 port   84 queue   88 word   92 tries   96 count
  * No call is under way where owner or stage is none of these. All bytes 0 are a fresh record.

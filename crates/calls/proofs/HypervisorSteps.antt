@@ -25,7 +25,7 @@ use Rattle.calls.specs.declared.types.Call.{Call}
 use Rattle.calls.specs.declared.hypervisor.stage.View.{View}
 use Rattle.calls.specs.declared.hypervisor.stage.Move.{Move}
 use Rattle.calls.specs.Answers.{codeOf}
-use Rattle.calls.specs.Records.{oneMore, isFree, effectiveTail}
+use Rattle.calls.specs.Records.{oneMore, isFree}
 use Rattle.calls.specs.Hypervisor.{goesOn, ends, endsTailed, named, replyR1, replyU1, replyBind, replyClose, replyFirstOf, replyFirst, staleQueue, afterR2, replyR2, triesCas, replyR4, replyR5, replyR6, stagedAt, staged}
 use Rattle.calls.specs.Claims.{isRefusal, tailsChanged}
 use Rattle.calls.proofs.Cases.{choose}
@@ -96,7 +96,7 @@ module _ (c : Call) (e seen : ℕ) (busy : isFree (c .owner) ≡ false) where
       q = queueAt (priority e)
 
       t : ℕ
-      t = effectiveTail (v .pages) (v .tail)
+      t = v .tail
 
       Goes : Call → Type 0
       Goes c′ = (c′ .owner ≡ c .owner) × (c′ .port ≡ c .port) × (c′ .count ≡ oneMore (c .count))

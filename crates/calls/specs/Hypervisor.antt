@@ -2,9 +2,9 @@
 -- call and reply gives for any record, ledger and word seen. n is the number of link bits.
 -- Assumes nothing.
 use Prim.Native.Nat.{ℕ, _+_, _%_}
-use mathlib.Core.Bool.{Bool, true, false, cond, not, _&&_, _||_}
+use mathlib.Core.Bool.{Bool, true, cond, not, _&&_}
 use mathlib.Core.List.{List}
-use lib.ListN.{length, getD, set}
+use lib.ListN.{getD, set}
 use lib.Dec.{eqb, ltb, leb}
 use Rattle.word.specs.declared.Port.{Port}
 use Rattle.word.specs.declared.Queue.{Queue}
@@ -38,7 +38,7 @@ use Rattle.calls.specs.declared.hypervisor.start.PortAcceptance.{PortAcc
 use Rattle.calls.specs.declared.hypervisor.start.PortAcceptance.the-variants as portAcceptance
 use Rattle.calls.specs.declared.hypervisor.start.Begin.{Begin}
 use Rattle.calls.specs.declared.hypervisor.start.Begin.the-variants as begin
-use Rattle.calls.specs.Records.{oneMore, pageLimit, isPort, inArray, effectiveTail, entryAt, isFree, callAt, idleCall, withCall}
+use Rattle.calls.specs.Records.{oneMore, pageLimit, isPort, inArray, entryAt, isFree, callAt, idleCall, withCall}
 
 -- ---- refusals, each call's row in its order
 
@@ -195,10 +195,10 @@ unfoldable pub replyR2 : Call → ℕ → View → ℕ → Move
 replyR2 c e v seen =
     cond (has Linked seen) (ends e Done (c .count))
     record {
-      queue = staleQueue e (c .port) (queueAt (priority e)) (effectiveTail (v .pages) (v .former));
+      queue = staleQueue e (c .port) (queueAt (priority e)) (v .former);
       tail = 0;
       entry = linkedEntry e (priority e);
-      call = afterR2 c (queueAt (priority e)) (effectiveTail (v .pages) (v .tail));
+      call = afterR2 c (queueAt (priority e)) (v .tail);
       answer = Done;
       count = 0;
     }
@@ -316,7 +316,7 @@ unmaskStart n d ledger p = started n d ledger p (beginLink n owner.Unmask (d .ca
 -- ---- the reply: 16, then 14
 
 unfoldable pub viewOf : Domain → ℕ → View
-viewOf d e = record { pages = d .pages; tail = getD (d .tails) (priority e) 0; former = getD (d .tails) (lastQueue e) 0 }
+viewOf d e = record { tail = getD (d .tails) (priority e) 0; former = getD (d .tails) (lastQueue e) 0 }
 
 unfoldable pub moved : Domain → Move → Domain
 moved d m = record { given = d .given; pages = d .pages; tails = set (d .tails) (m .queue .0) (m .tail); call = m .call }

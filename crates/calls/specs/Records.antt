@@ -38,10 +38,6 @@ isPort n p = not (eqb p 0) && ltb p (portLimit n)
 unfoldable pub inArray : ℕ → ℕ → Bool
 inArray pages p = ltb (p / 1024) pages
 
--- a tail at or beyond the array's end counts as none
-unfoldable pub effectiveTail : ℕ → ℕ → ℕ
-effectiveTail pages tail = cond (inArray pages tail) tail 0
-
 -- the ledger's entry for a port
 unfoldable pub entryAt : List ℕ → ℕ → Lookup
 entryAt ledger p = cond (ltb p (length ledger)) (Found (getD ledger p 0)) Missing

@@ -191,7 +191,6 @@ pub fn view_of(domain: Domain, entry: u16) -> View
     let tail = records::at_queue(tails, queue);
     let former = records::at_queue(tails, last);
     View {
-        pages: domain.pages,
         tail: tail,
         former: former,
     }

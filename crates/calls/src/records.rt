@@ -4,7 +4,7 @@ ghost use Prim.Native.Nat.{ℕ};
 ghost use lib.ListN.{length, getD, set, replicate};
 ghost use Rattle.word.specs.Word.{linkBits, portAt, queueAt};
 ghost use Rattle.word.specs.Entry.{freshEntry};
-ghost use Rattle.calls.specs.Records.{oneMore, portLimit, pageLimit, isPort, inArray, effectiveTail, entryAt, isFree, callAt, idleCall, guestCallAt, guestIdle, freshDomain, freshGuest, withCall};
+ghost use Rattle.calls.specs.Records.{oneMore, portLimit, pageLimit, isPort, inArray, entryAt, isFree, callAt, idleCall, guestCallAt, guestIdle, freshDomain, freshGuest, withCall};
 use crate::types::Call;
 use crate::types::Domain;
 use crate::types::Guest;
@@ -56,14 +56,6 @@ pub fn in_array(pages: u32, port: Port) -> bool
     ensures { λ r. ⌜ r ≡ inArray pages (port .0) ⌝ }
 {
     port.0 / 1024 < pages
-}
-
-// A tail at or beyond the array's end counts as none.
-pub fn effective_tail(pages: u32, tail: u32) -> u32
-    ensures { λ r. ⌜ r ≡ effectiveTail pages tail ⌝ }
-{
-    let inside = in_array(pages, Port(tail));
-    if inside { tail } else { 0 }
 }
 
 pub fn entry_at(ledger: &[u16], port: Port) -> Lookup

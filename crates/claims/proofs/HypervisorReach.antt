@@ -5,7 +5,7 @@ use Prim.Native.Nat.{ℕ, zero, suc, _+_, _*_, _≤_, _<_}
 use mathlib.Core.Path.{_≡_, refl, sym, ap, subst, _∙_}
 use mathlib.Core.Bool.{Bool, true, false, cond, not, true≢false, false≢true}
 use mathlib.Core.List.{List}
-use mathlib.Core.Logic.{_⊎_, inl, inr, ⊎-elim, _≢_}
+use mathlib.Core.Logic.{inl, inr, ⊎-elim, _≢_}
 use native.Mathlib.Omega.{arith}
 use borrow.Author.Tests.{eqb-true, eqb-false, leb-false, ltb-true, ltb-false}
 use lib.ListN.{length, getD, set, replicate, length-set}
@@ -31,7 +31,7 @@ use Rattle.calls.specs.declared.types.Stage.the-variants.{First, R2, R3, R4, R5
 use Rattle.calls.specs.declared.types.Call.{Call}
 use Rattle.calls.specs.declared.types.Domain.{Domain}
 use Rattle.calls.specs.declared.hypervisor.stage.Move.{Move}
-use Rattle.calls.specs.Records.{isFree, effectiveTail, inArray, callAt, withCall, freshDomain}
+use Rattle.calls.specs.Records.{isFree, callAt, withCall, freshDomain}
 use Rattle.calls.specs.Hypervisor.{Turn, goesOn, ends, endsTailed, named, replyR1, replyU1, replyBind, replyClose, replyFirstOf, replyFirst, staleQueue, afterR2, replyR2, triesCas, replyR4, replyR5, replyR6, stagedAt, staged, viewOf, moved, dueFirst, dueAt, due, nextOf, dueOf}
 use Rattle.calls.specs.Claims.{Act, isReply, hypervisorSide, Counting, namedAfter, runOne}
 use Rattle.calls.proofs.Cases.{choose, by-test, no-access, same-access, same-answer}
@@ -39,7 +39,8 @@ use Rattle.calls.proofs.RecordLaws.{is-port, in-array}
 use Rattle.calls.proofs.HypervisorTurns.{entryOf, replyMove, atStart, sixteen, fourteen, Kind, refused, settled, begun, carried, kind}
 use Rattle.calls.proofs.HypervisorClaims.{next-access, next-answer, names-due, counts-calls}
 use Rattle.machine.specs.Memory.{placeOf}
-use Rattle.claims.specs.Reach.{PortInside, Inside, arrayWords, callLimit, CallsBounded, TailsInside, TailsStayInside}
+use Rattle.claims.specs.Reach.{PortInside, Inside, arrayWords, callLimit, CallsBounded}
+use Rattle.claims.specs.Tails.{TailInside, TailsInside, TailsStayInside}
 use Rattle.claims.proofs.SideReach.{always, bounded}
 
 -- ---- the invariant
@@ -77,20 +78,13 @@ record Invariant (s : Counting Domain) : Type 0 where
 
 -- ---- a step carried out
 
--- none, or a port of the array
-abbrev Tail : ℕ → ℕ → Type 0
-Tail words t = (t ≡ 0) ⊎ PortInside words t
-
 record MoveInside (words : ℕ) (tails : List ℕ) (k : ℕ) (m : Move) : Type 0 where
-  tail : Tail words (m .tail)
+  tail : TailInside words (m .tail)
   call : isFree (m .call .owner) ≡ false → CallInside words (set tails (m .queue .0) (m .tail)) (m .call) (k + 1)
 
-effective : (pages t : ℕ) → eqb (effectiveTail pages t) 0 ≡ false → PortInside (1024 * pages) t
-unfolding effectiveTail
-effective pages t =
-    by-test (λ e. eqb e 0 ≡ false → PortInside (1024 * pages) t) (inArray pages t)
-    (λ h f. record { positive = omega (arith, eqb-false t 0 f); below = in-array pages t h })
-    (λ h f. absurd (true≢false f))
+some-tail : (words t : ℕ) → TailInside words t → eqb t 0 ≡ false → PortInside words t
+some-tail words t (inl e) f = absurd (eqb-false t 0 f e)
+some-tail words t (inr i) f = i
 
 stale-other : (e : ℕ) (p : Port) (former : ℕ) → priority e ≢ staleQueue e p (queueAt (priority e)) former .0
 unfolding staleQueue
@@ -105,9 +99,9 @@ stale-other e p former =
     none : Other (queueAt 16)
     none f = omega (arith, priority-lt e)
 
-module _ (pages : ℕ) (tails : List ℕ) (size : length tails ≡ 16) (c : Call) (k : ℕ) (port : PortInside (1024 * pages) (c .port .0)) where
+module _ (words : ℕ) (tails : List ℕ) (size : length tails ≡ 16) (inside : (q : ℕ) → TailInside words (getD tails q 0)) (c : Call) (k : ℕ) (port : PortInside words (c .port .0)) where
   abbrev Moves : Move → Type 0
-  Moves m = MoveInside (1024 * pages) tails k m
+  Moves m = MoveInside words tails k m
 
   ended : (e : ℕ) (a : Answer) (count : ℕ) → Moves (ends e a count)
   unfolding isFree
@@ -117,7 +111,7 @@ module _ (pages : ℕ) (tails : List ℕ) (size : length tails ≡ 16) (c : Call
   unfolding isFree
   tailed e a = record { tail = inr port; call = λ f. absurd (true≢false f) }
 
-  goes : (e : ℕ) {c′ : Call} → CallInside (1024 * pages) tails c′ (k + 1) → Moves (goesOn e c′)
+  goes : (e : ℕ) {c′ : Call} → CallInside words tails c′ (k + 1) → Moves (goesOn e c′)
   goes e i = record { tail = inl refl; call = λ f. rw (set-out tails 16 0 (omega arith)) i }
 
   module _ (e seen : ℕ) where
@@ -138,35 +132,35 @@ module _ (pages : ℕ) (tails : List ℕ) (size : length tails ≡ 16) (c : Call
 
     -- the call after R2, whose tails have lost that of queue `stale`
     chooses : k ≤ 2 → (stale : ℕ) → priority e ≢ stale →
-        CallInside (1024 * pages) (set tails stale 0) (afterR2 c (queueAt (priority e)) (effectiveTail pages (getD tails (priority e) 0))) (k + 1)
+        CallInside words (set tails stale 0) (afterR2 c (queueAt (priority e)) (getD tails (priority e) 0)) (k + 1)
     unfolding afterR2
     chooses h stale other =
-        by-test After (eqb (effectiveTail pages (getD tails (priority e) 0)) 0) (λ f. stores)
-        (λ f. choose After (eqb (effectiveTail pages (getD tails (priority e) 0)) (c .port .0)) stores
-        (record { port = port; queue = priority-lt e; tries = omega arith; length = omega arith; tail = rw (getD-set-other tails stale (priority e) 0 0 other) (effective pages _ f) }))
+        by-test After (eqb (getD tails (priority e) 0) 0) (λ f. stores)
+        (λ f. choose After (eqb (getD tails (priority e) 0) (c .port .0)) stores
+        (record { port = port; queue = priority-lt e; tries = omega arith; length = omega arith; tail = rw (getD-set-other tails stale (priority e) 0 0 other) (some-tail words _ (inside (priority e)) f) }))
       where
         After : Call → Type 0
-        After c′ = CallInside (1024 * pages) (set tails stale 0) c′ (k + 1)
+        After c′ = CallInside words (set tails stale 0) c′ (k + 1)
 
         stores : After (named c R5 (queueAt (priority e)))
         stores = record { port = port; queue = priority-lt e; tries = omega arith; length = omega arith; tail = tt }
 
-    links : k ≤ 2 → (former : ℕ) → Moves (replyR2 c e (record { pages = pages; tail = getD tails (priority e) 0; former = former }) seen)
+    links : k ≤ 2 → (former : ℕ) → Moves (replyR2 c e (record { tail = getD tails (priority e) 0; former = former }) seen)
     unfolding replyR2
     links h former =
         choose Moves (has Linked seen) (ended e Done _)
-        (record { tail = inl refl; call = λ f. chooses h _ (stale-other e (c .port) (effectiveTail pages former)) })
+        (record { tail = inl refl; call = λ f. chooses h _ (stale-other e (c .port) former) })
 
     module _ (queue : c .queue .0 < 16) where
-      compares : (tries : ℕ) → tries ≤ 4 → k ≤ 3 + tries → PortInside (1024 * pages) (getD tails (c .queue .0) 0) → Moves (triesCas c e tries seen)
+      compares : (tries : ℕ) → tries ≤ 4 → k ≤ 3 + tries → PortInside words (getD tails (c .queue .0) 0) → Moves (triesCas c e tries seen)
       unfolding triesCas
       compares tries t h tail =
           choose Moves (not (has Linked seen)) (goes e (record { port = port; queue = queue; tries = omega arith; length = omega arith; tail = tt }))
           (by-test Moves (leb 4 tries) (λ f. tailed e LinkAbandoned)
           (λ f. goes e (record { port = port; queue = queue; tries = omega (arith, leb-false 4 tries f); length = omega arith; tail = tail })))
 
-      steps : (s : Stage) → c .tries ≤ 4 → k ≤ most s (c .tries) → TailDue s (1024 * pages) (getD tails (c .queue .0) 0) → (former : ℕ) →
-          Moves (stagedAt s c e (record { pages = pages; tail = getD tails (priority e) 0; former = former }) seen)
+      steps : (s : Stage) → c .tries ≤ 4 → k ≤ most s (c .tries) → TailDue s words (getD tails (c .queue .0) 0) → (former : ℕ) →
+          Moves (stagedAt s c e (record { tail = getD tails (priority e) 0; former = former }) seen)
       unfolding replyFirst replyR4 replyR5 replyR6
       steps First t h tail former = first h (c .owner)
       steps R2 t h tail former = links h former
@@ -208,10 +202,10 @@ wider-due R4 words more t h i = wider h i
 wider-due R5 words more t h i = tt
 wider-due R6 words more t h i = tt
 
-tails-set : (words : ℕ) (tails : List ℕ) (j v : ℕ) → Tail words v → ((q : ℕ) → Tail words (getD tails q 0)) → (q : ℕ) → Tail words (getD (set tails j v) q 0)
+tails-set : (words : ℕ) (tails : List ℕ) (j v : ℕ) → TailInside words v → ((q : ℕ) → TailInside words (getD tails q 0)) → (q : ℕ) → TailInside words (getD (set tails j v) q 0)
 tails-set words tails j v h i q = go (eqb q j) refl (ltb j (length tails)) refl
   where
-    go : (b : Bool) → eqb q j ≡ b → (inside : Bool) → ltb j (length tails) ≡ inside → Tail words (getD (set tails j v) q 0)
+    go : (b : Bool) → eqb q j ≡ b → (inside : Bool) → ltb j (length tails) ≡ inside → TailInside words (getD (set tails j v) q 0)
     go false e inside l = rw (getD-set-other tails j q v 0 (eqb-false q j e)) (i q)
     go true e true l = rw (eqb-true q j e, getD-set-same tails j v 0 (ltb-true _ _ l)) h
     go true e false l = rw (set-out tails j v (ltb-false _ _ l)) (i q)
@@ -257,7 +251,7 @@ module _ (n : ℕ) (d : Domain) (k : ℕ) (i : Invariant (record { state = d; na
       (record { tails = record { size = i .tails .size; tails = i .tails .tails }; most = omega arith; call = λ f. record { port = record { positive = is-port n (p .0) (on .port); below = in-array (d .pages) (p .0) (on .inside) }; queue = omega arith; tries = omega arith; length = omega arith; tail = tt } })
   keeps-turn (carried {seen = seen} {ledger = ledger} busy kept) =
       let j = i .call busy in
-      carried-keeps (replyMove d ledger seen) (steps (d .pages) (d .tails) (i .tails .size) (d .call) k (j .port) (entryOf d ledger) seen (j .queue) (d .call .stage) (j .tries) (j .length) (j .tail) _)
+      carried-keeps (replyMove d ledger seen) (steps (arrayWords d) (d .tails) (i .tails .size) (i .tails .tails) (d .call) k (j .port) (entryOf d ledger) seen (j .queue) (d .call .stage) (j .tries) (j .length) (j .tail) _)
 
 -- ---- the claims
 

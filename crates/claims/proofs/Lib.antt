@@ -1,6 +1,7 @@
 pub mod Cases
 pub mod SideReach
 pub mod HypervisorReach
+pub mod Tails
 pub mod GuestReach
 pub mod Refusals
 pub mod Entries

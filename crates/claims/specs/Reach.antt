@@ -5,8 +5,8 @@ use Prim.Native.Nat.{ℕ, _*_, _≤_, _<_, max}
 use mathlib.Core.Path.{_≡_}
 use mathlib.Core.Bool.{true, false}
 use mathlib.Core.List.{List, [], _∷_, _++_}
-use mathlib.Core.Logic.{_⊎_, _≢_}
-use lib.ListN.{length, getD, replicate}
+use mathlib.Core.Logic.{_≢_}
+use lib.ListN.{replicate}
 use Rattle.word.specs.declared.Port.{Port}
 use Rattle.word.specs.Word.{linkBits, portAt}
 use Rattle.word.specs.Entry.{freshEntry, boundEntry}
@@ -68,14 +68,6 @@ callLimit = 9
 abbrev pub CallsBounded : Type 0
 CallsBounded = (n : ℕ) → BoundedFrom (hypervisorSide n) arrayWords callLimit freshDomain
 
--- there are sixteen tails, each 0 or a port of the array
-pub record TailsInside (d : Domain) : Type 0 where
-  pub size : length (d .tails) ≡ 16
-  pub tails : (q : ℕ) → (getD (d .tails) q 0 ≡ 0) ⊎ PortInside (arrayWords d) (getD (d .tails) q 0)
-
-abbrev pub TailsStayInside : Type 0
-TailsStayInside = (n : ℕ) (acts : List Act) → TailsInside (run (hypervisorSide n) (record { state = freshDomain; named = 0 }) acts .state)
-
 -- ---- the guest's side: her number of words, and five accesses
 
 abbrev pub serviceLimit : ℕ
@@ -100,10 +92,10 @@ WordsAreTold = (n : ℕ) (s : Counting Guest) (acts : List GuestAct) → run (gu
 abbrev entries : List ℕ
 entries = replicate 3 (boundEntry freshEntry)
 
-abbrev starts : Start → Act
+abbrev pub starts : Start → Act
 starts s = Starts s entries
 
-abbrev replies : List ℕ → List Act
+abbrev pub replies : List ℕ → List Act
 replies [] = []
 replies (seen ∷ words) = Replies seen entries ∷ replies words
 

@@ -81,7 +81,7 @@ unfoldable pub callAt : List ℕ → Call
 callAt r = record { owner = ownerAt r; stage = stageOf (numberAt 3 r 76); port = portAt (numberAt 3 r 80); queue = queueAt (numberAt 3 r 84); word = numberAt 3 r 88; tries = numberAt 3 r 92; count = numberAt 3 r 96 }
 
 unfoldable pub viewAt : List ℕ → ℕ → View
-viewAt r e = record { pages = pagesAt r; tail = tailAt r (priority e); former = tailAt r (lastQueue e) }
+viewAt r e = record { tail = tailAt r (priority e); former = tailAt r (lastQueue e) }
 
 -- the record that the bytes are
 unfoldable pub domainAt : List ℕ → Domain

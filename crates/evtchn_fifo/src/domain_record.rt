@@ -147,11 +147,9 @@ pub(crate) fn view_at(domain: &[u8], entry: u16) -> View
     let priority = word::entry::priority_of(entry);
     let queue = word::entry::queue_of(priority);
     let last = word::entry::last_queue(entry);
-    let pages = numbers::u32_at(domain, layout::PAGES);
     let tail = numbers::value_at(domain, layout::TAILS, queue);
     let former = numbers::value_at(domain, layout::TAILS, last);
     View {
-        pages: pages,
         tail: tail,
         former: former,
     }

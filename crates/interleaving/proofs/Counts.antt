@@ -52,7 +52,7 @@ use Rattle.interleaving.proofs.Steps.{reply-free, perform-free, reply-n
 use Rattle.interleaving.proofs.Theorem.{fresh-good}
 use Rattle.interleaving.proofs.Carried.{carried, perform-carried}
 use Rattle.interleaving.proofs.Starts.{BeginFacts, port-facts, bind-facts, close-facts, priority-facts, link-facts}
-use Rattle.calls.specs.Records.{oneMore, isFree, effectiveTail, entryAt}
+use Rattle.calls.specs.Records.{oneMore, isFree, entryAt}
 use Rattle.word.specs.Entry.{priority}
 use Rattle.queue.proofs.Cases.{clash, by-cond}
 use Rattle.calls.specs.Hypervisor.{ends, replyFirstOf, endsTailed, named, replyR1, replyU1, replyBind, replyClose, replyFirst, afterR2, replyR2, triesCas, replyR4, replyR5, replyR6, stagedAt, staged, answered, nextOf, moved, acceptInit, acceptExpand, acceptPort, beginBind, beginClose, beginPriority, beginLink, initControlOf, initControl, expandArrayOf, expandArray, bindStart, closeStart, setPriority, raiseStart, unmaskStart}
@@ -93,7 +93,7 @@ module _ (c : Call) (busy : isFree (c .owner) ≡ false) where
       (λ d. goes-counts _ (after (λ z. z .owner ≡ c .owner) refl refl) (after (λ z. z .count ≡ oneMore (c .count)) refl refl))
     where
       t : ℕ
-      t = effectiveTail (v .pages) (v .tail)
+      t = v .tail
 
       after : (P : Call → Type 0) → P (named c stage.R5 (queueAt (priority e))) → P (named c stage.R3 (queueAt (priority e))) → P (cond (eqb t 0) (named c stage.R5 (queueAt (priority e))) (cond (eqb t (c .port .0)) (named c stage.R5 (queueAt (priority e))) (named c stage.R3 (queueAt (priority e)))))
       after P a b = by-cond P (eqb t 0) _ _ (λ d. a) (λ d. by-cond P (eqb t (c .port .0)) _ _ (λ f. a) (λ f. b))

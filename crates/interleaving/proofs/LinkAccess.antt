@@ -1,15 +1,14 @@
 -- R2: the port is linked on the queue of its priority.
 -- Assumes nothing.
 use mathlib.Core.Path.{_≡_, refl, sym, ap, subst}
-use mathlib.Core.Logic.{_≢_}
 use mathlib.Core.Bool.{Bool, true, false, cond, not, _&&_, _||_}
 use mathlib.Core.List.{List}
-use Prim.Native.Nat.{ℕ, suc, _*_, _/_, _^_, _≤_, _<_, zero-le}
+use Prim.Native.Nat.{ℕ, suc, _^_, _≤_, _<_, zero-le}
 use native.Mathlib.Omega.{arith}
-use lib.Dec.{eqb, ltb, leb, lit≤}
+use lib.Dec.{eqb, lit≤}
 use lib.ListN.{length, getD, set}
 use lib.Seq.{set-out}
-use borrow.Author.Tests.{lt-ltb, lt-leb, eqb-false}
+use borrow.Author.Tests.{eqb-false}
 use Rattle.word.specs.declared.Queue.{Queue}
 use Rattle.word.specs.declared.Flag.the-variants.{Linked}
 use Rattle.word.specs.Word.{has, mask, Width, queueAt}
@@ -27,7 +26,6 @@ use Rattle.calls.specs.declared.types.Stage.{Stage}
 use Rattle.calls.specs.declared.types.Stage.the-variants as stage
 use Rattle.calls.specs.declared.types.Call as calls
 use Rattle.calls.specs.declared.hypervisor.stage.Move.{Move}
-use Rattle.calls.specs.Records.{inArray, effectiveTail}
 use Rattle.calls.specs.Hypervisor.{ends, named, due, staged, replyR2, staleQueue, afterR2}
 use Rattle.calls.specs.Hypervisor as hypervisor
 use Rattle.machine.specs.Memory.{memory, performed, placeOf, afterAccess, loaded, saved}
@@ -42,7 +40,7 @@ use Rattle.queue.specs.Model.Call.{idle, asks, holds}
 use Rattle.queue.specs.Stages.{After, put, tailsAtR2, staleTail, forgetTail, linkOn, R5}
 use Rattle.queue.specs.Budget.{madeBy}
 use Rattle.queue.specs.Invariant.{Keeps}
-use Rattle.queue.proofs.Cases.{clash, by-cond, split, and-both}
+use Rattle.queue.proofs.Cases.{clash, by-cond, and-both}
 use Rattle.queue.proofs.UpdateLaws.{update-other}
 use Rattle.queue.proofs.Link.{R2-keeps}
 use Rattle.queue.proofs.Budget.{count-asks}
@@ -55,13 +53,6 @@ use Rattle.interleaving.proofs.View.{viewOf, callOf, guestCallOf, agree
 use Rattle.interleaving.proofs.Carried.{atStage, portOf, entryOf, guestsOf, carried, perform-carried, Moves, kept, put-kept, sizes-word, in-words, no-bounds}
 use Rattle.interleaving.proofs.Replies.{one-more-le, fit-named, ends-moves, done}
 use Rattle.interleaving.proofs.Linking.{under-way, not-free}
-
--- a tail is none or in the array, so it counts
-effective : (pages t : ℕ) → (t ≢ 0 → t < 1024 * pages) → effectiveTail pages t ≡ t
-unfolding effectiveTail inArray
-effective pages t h = split t 0
-    (λ e. by-cond (λ x. x ≡ t) (ltb (t / 1024) pages) t 0 (λ d. refl) (λ d. sym e))
-    (λ n. let l : t < 1024 * pages = h n in rw (lt-ltb (t / 1024) pages (omega arith)))
 
 stale-tails : (tails : List ℕ) (last q p : ℕ) (ever : Bool) → length tails ≡ 16 → last < 16 → (r : ℕ)
     → getD (set tails (cond (not ever) (queueAt 16) (cond (eqb last q) (queueAt 16) (cond (eqb (getD tails last 0) p) (queueAt last) (queueAt 16))) .0) 0) r 0
@@ -92,12 +83,11 @@ own-tail v q p = by-cond (λ f. f q ≡ v .tail q) (staleTail v q p) (forgetTail
         go false e = refl
 
 -- R5 or R3
-after-call : (n : ℕ) (c : calls.Call) (q : Queue) → isLinking (c .owner) ≡ true → (a b d : Bool) → (a ≡ false → b ≡ false)
-    → callOf n (cond a (named c stage.R5 q) (cond d (named c stage.R5 q) (named c stage.R3 q))) ≡ cond (a || (b || d)) (holds (q .0) (c .port .0) atR5) (holds (q .0) (c .port .0) atR3)
-after-call n c q l true b d f = under-way (c .owner) _ l
-after-call n c q l false true d f = clash refl (f refl)
-after-call n c q l false false true f = under-way (c .owner) _ l
-after-call n c q l false false false f = under-way (c .owner) _ l
+after-call : (n : ℕ) (c : calls.Call) (q : Queue) → isLinking (c .owner) ≡ true → (a b : Bool)
+    → callOf n (cond a (named c stage.R5 q) (cond b (named c stage.R5 q) (named c stage.R3 q))) ≡ cond (a || b) (holds (q .0) (c .port .0) atR5) (holds (q .0) (c .port .0) atR3)
+after-call n c q l true b = under-way (c .owner) _ l
+after-call n c q l false true = under-way (c .owner) _ l
+after-call n c q l false false = under-way (c .owner) _ l
 
 module _ {n : ℕ} (wide : Width n) (w : World) (h : List Event) (o : Owner) (linking : isLinking o ≡ true)
     (k : Core n (atStage w o stage.R2) (asks atR2 (portOf w)) (guestCallOf (w .guest .call)) h) where
@@ -125,9 +115,6 @@ module _ {n : ℕ} (wide : Width n) (w : World) (h : List Event) (o : Owner) (li
   small : afterOr seen (mask Linked) < 2 ^ 32
   small = or-lt-32 seen (mask Linked) (k .sizes .small port (k .inv .port .inside)) (mask-lt Linked)
 
-  inside : (q : ℕ) → tail q ≢ 0 → tail q < 1024 * w .domain .pages
-  inside q d = k .inv .tails q d .inside
-
   -- what the queue level leaves, by whether the port was linked already
   abbrev left : Bool → After Call
   left b = cond b (record { view = put (viewOf n w) port (withLinked true (decoded n seen)); call = idle; lists = k .lists }) (linkOn queue port (viewOf n w) (k .lists))
@@ -152,8 +139,7 @@ module _ {n : ℕ} (wide : Width n) (w : World) (h : List Event) (o : Owner) (li
   moves : Moves n (length (w .ledger)) call (left false .call) move
   unfolding afterR2
   moves = record {
-    call = rw (own-tail (viewOf n w) queue port) (after-call n call (queueAt queue) linking (eqb (tail queue) 0) (leb (1024 * w .domain .pages) (tail queue)) (eqb (tail queue) port)
-        (λ d. lt-leb (1024 * w .domain .pages) (tail queue) (inside queue (eqb-false (tail queue) 0 d))));
+    call = rw (own-tail (viewOf n w) queue port) (after-call n call (queueAt queue) linking (eqb (tail queue) 0) (eqb (tail queue) port));
     fit = either-stage (Fit (length (w .ledger))) (fit stage.R5 refl) (fit stage.R3 refl);
     more = either-stage (λ z. z .count ≤ suc (call .count)) (one-more-le (call .count)) (one-more-le (call .count));
     answer = done;
@@ -187,7 +173,7 @@ module _ {n : ℕ} (wide : Width n) (w : World) (h : List Event) (o : Owner) (li
   pub at-R2 : Kept n (performSide n (atStage w o stage.R2) side.Hypervisor) h
   unfolding due staged replyR2 performed placeOf afterAccess loaded saved hypervisor.viewOf
   at-R2 = subst (λ a. Kept n a h) (sym (perform-carried n (atStage w o stage.R2) (not-free o linking) known))
-      (rw (effective (w .domain .pages) (tail (lastQueue entry)) (inside (lastQueue entry)), effective (w .domain .pages) (tail queue) (inside queue)) (go (has Linked seen) refl))
+      (go (has Linked seen) refl)
     where
       go : (b : Bool) → has Linked seen ≡ b
           → Kept n (carried n (atStage w o stage.R2) (Or (place.Word (call .port)) (mask Linked)) seen (memory (set (w .memory .words) port (afterOr seen (mask Linked))) (w .memory .block)) (cond b (ends entry Done (call .count)) move)) h

@@ -27,7 +27,7 @@ try-left q p tries old i e d = omega (arith, R4-fewer q p tries old i e d)
 pub count-asks : (v : View) (L : ℕ → List ℕ) (q : ℕ) (k : Kind) (p : ℕ) → madeBy (asks k p) < madeBy (access q (asks k p) v L .call)
 count-asks v L q atR1 p = by-cond (λ c. 0 < madeBy c) (v .word p .masked || v .word p .linked) idle (asks atR2 p) (λ e. omega arith) (λ e. omega arith)
 count-asks v L q atR2 p = by-cond (λ (a : After Call). 1 < madeBy (a .call)) (v .word p .linked) _ (linkOn q p v L) (λ e. omega arith)
-    (λ e. by-cond (λ c. 1 < madeBy c) (noTail v (tailsAtR2 v q p q) p) (holds q p atR5) (holds q p atR3) (λ e. omega arith) (λ e. omega arith))
+    (λ e. by-cond (λ c. 1 < madeBy c) (noTail (tailsAtR2 v q p q) p) (holds q p atR5) (holds q p atR3) (λ e. omega arith) (λ e. omega arith))
 count-asks v L q atU1 p = by-cond (λ c. 0 < madeBy c) (v .word p .pending && not (v .word p .linked)) (asks atR2 p) idle (λ e. omega arith) (λ e. omega arith)
 count-asks v L q atBind p = omega arith
 count-asks v L q atClose p = omega arith

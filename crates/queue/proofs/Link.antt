@@ -3,10 +3,9 @@ use mathlib.Core.Path.{_≡_, refl, sym, ap, _∙_}
 use mathlib.Core.Logic.{_≢_, _⊎_, inl, inr}
 use mathlib.Core.Bool.{true, false, not}
 use mathlib.Core.List.{List, []}
-use Prim.Native.Nat.{ℕ, _≤_, _<_}
-use native.Mathlib.Omega.{arith}
-use lib.Dec.{eqb, leb}
-use borrow.Author.Tests.{eqb-true, eqb-false, leb-true, eq-eqb, ne-eqb}
+use Prim.Native.Nat.{ℕ}
+use lib.Dec.{eqb}
+use borrow.Author.Tests.{eqb-true, eqb-false, eq-eqb, ne-eqb}
 use Rattle.queue.specs.Update.{update}
 use Rattle.queue.specs.Chain.{Member}
 use Rattle.queue.specs.Model.{Word, Stage, GuestCall, View, withLinked}
@@ -52,10 +51,8 @@ forgets {v} q p i = by-cond (λ t. Forgets (v .tail) t q p) (staleTail v q p) (f
     rule r h n = rw (known r h .ever, ne-eqb (v .lastQueue p) q n, eq-eqb (v .tail (v .lastQueue p)) p (ap (v .tail) (known r h .queue) ∙ h))
 
 -- T[q] is neither none nor p
-tail-other : (v : View) (t p : ℕ) → noTail v t p ≡ false → AtR3 t p
-tail-other v t p e =
-    let d = or-none (eqb t 0) _ e in
-    record { some = eqb-false _ _ (d .0); other = eqb-false _ _ (or-none (leb (v .size) t) _ (d .1) .1) }
+tail-other : (t p : ℕ) → noTail t p ≡ false → AtR3 t p
+tail-other t p e = let d = or-none (eqb t 0) _ e in record { some = eqb-false _ _ (d .0); other = eqb-false _ _ (d .1) }
 
 module _ {v : View} {g : ℕ → GuestCall} {L : ℕ → List ℕ} (q p : ℕ) (i : Inv v (asks atR2 p) g L) (un : v .word p .linked ≡ false) where
   -- a port that is not linked stands on no queue
@@ -105,20 +102,17 @@ module _ {v : View} {g : ℕ → GuestCall} {L : ℕ → List ℕ} (q p : ℕ) (
       y : Word
       y = withLinked true (v .word p)
 
-  -- a tail that stands on q is a port of the array, and not p, which is not linked
-  vacant : noTail v (tailsAtR2 v q p q) p ≡ true → L q ≡ []
+  -- a tail that stands on q is a port, and not p, which is not linked
+  vacant : noTail (tailsAtR2 v q p q) p ≡ true → L q ≡ []
   vacant e = either (tail-on (queue q)) (λ z. z) (λ m. absurd (either (or-some (eqb t 0) _ e)
-      (λ a. member-nonzero t (queue q) m (eqb-true _ _ a))
-      (λ d. either (or-some (leb (v .size) t) _ d)
-      (λ b. let k : v .size ≤ t = leb-true _ _ b in let h : t < v .size = i .member q t m .inside in omega arith)
-      (λ c. other q t m (eqb-true _ _ c)))))
+      (λ a. member-nonzero t (queue q) m (eqb-true _ _ a)) (λ c. other q t m (eqb-true _ _ c))))
     where
       t : ℕ
       t = tailsAtR2 v q p q
 
   linkOn-keeps : Keeps (linkOn q p v L) g
-  linkOn-keeps = by-cond (λ c. Inv (linkOn q p v L .view) c g L) (noTail v (tailsAtR2 v q p q) p) (holds q p atR5) (holds q p atR3)
-      (λ e. links atR5 (vacant e)) (λ e. links atR3 (tail-other v (tailsAtR2 v q p q) p e))
+  linkOn-keeps = by-cond (λ c. Inv (linkOn q p v L .view) c g L) (noTail (tailsAtR2 v q p q) p) (holds q p atR5) (holds q p atR3)
+      (λ e. links atR5 (vacant e)) (λ e. links atR3 (tail-other (tailsAtR2 v q p q) p e))
 
 pub R2-keeps : {v : View} {g : ℕ → GuestCall} {L : ℕ → List ℕ} (q p : ℕ) → Inv v (asks atR2 p) g L → Keeps (R2 q p v L) g
 R2-keeps {v} {g} {L} q p i = by-cond (λ a. Keeps a g) (v .word p .linked) _ (linkOn q p v L)

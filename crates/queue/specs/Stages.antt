@@ -50,13 +50,13 @@ abbrev pub tailsAtR2 : View → ℕ → ℕ → ℕ → ℕ
 tailsAtR2 v q p = cond (staleTail v q p) (forgetTail v p) (v .tail)
 
 -- T[q] is none or p
-abbrev pub noTail : View → ℕ → ℕ → Bool
-noTail v t p = eqb t 0 || (leb (v .size) t || eqb t p)
+abbrev pub noTail : ℕ → ℕ → Bool
+noTail t p = eqb t 0 || eqb t p
 
 abbrev pub linkOn : ℕ → ℕ → View → (ℕ → List ℕ) → After Call
 linkOn q p v L = record {
   view = withTails (tailsAtR2 v q p) (withLedger (update (v .lastQueue) p q) (update (v .everLinked) p true) (put v p (withLinked true (v .word p))));
-  call = cond (noTail v (tailsAtR2 v q p q) p) (holds q p atR5) (holds q p atR3);
+  call = cond (noTail (tailsAtR2 v q p q) p) (holds q p atR5) (holds q p atR3);
   lists = L;
 }
 

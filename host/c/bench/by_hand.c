@@ -85,13 +85,6 @@ static inline uint32_t tail_of(const domain_record *domain, uint32_t queue)
     return queue < EVTCHN_FIFO_QUEUES ? domain->tails[queue] : 0;
 }
 
-/* The same with a tail at or beyond the array's end as none. */
-static inline uint32_t tail_in_array(const domain_record *domain, uint32_t queue)
-{
-    uint32_t tail = domain->tails[queue];
-    return in_array(domain, tail) ? tail : 0;
-}
-
 static inline void set_tail(domain_record *domain)
 {
     if (domain->queue < EVTCHN_FIFO_QUEUES)
@@ -213,11 +206,11 @@ static inline evtchn_fifo_next r2_reply(domain_record *domain, ledger_entry *ent
     uint32_t bits = entry->bits, queue = bits & PRIORITY, last = (bits & LAST_QUEUE) >> 4, tail;
     if (seen & LINKED)
         return end(domain, EVTCHN_FIFO_DONE);
-    if ((bits & BEEN_LINKED) && last != queue && tail_in_array(domain, last) == domain->port)
+    if ((bits & BEEN_LINKED) && last != queue && domain->tails[last] == domain->port)
         domain->tails[last] = 0;
     entry->bits = (uint16_t)((bits & ~LAST_QUEUE) | queue << 4 | BEEN_LINKED);
     domain->queue = queue;
-    tail = tail_in_array(domain, queue);
+    tail = domain->tails[queue];
     if (tail == 0 || tail == domain->port)
         return go_on_r5(domain, queue);
     go_on(domain, R3);

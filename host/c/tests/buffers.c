@@ -9,6 +9,7 @@
 
 #include "check.h"
 #include "evtchn_fifo.h"
+#include "words.h"
 
 #define RECORD_BYTES 256u
 #define LEDGER_BYTES 64u
@@ -108,13 +109,6 @@ static const call guest_calls[] = {{"fresh_guest", fresh_guest}, {"service", ser
 
 /* ---- records in many states, each a number below a limit ---- */
 
-static void put(size_t at, uint32_t value)
-{
-    size_t k;
-    for (k = 0; k < 4; k++)
-        bytes[at + k] = (uint8_t)(value >> 8 * k);
-}
-
 static uint32_t word_of(unsigned number)
 {
     static const uint32_t words[] = {0, 0x80000000u, 0xA0000005u, 0xFFFFFFFFu};
@@ -125,12 +119,12 @@ static uint32_t word_of(unsigned number)
 static void set_domain(unsigned state)
 {
     fill();
-    put(0, state % 2);
-    put(4, state / 2 % 2);
+    put(bytes, 0, state % 2);
+    put(bytes, 4, state / 2 % 2);
     table[PORT * EVTCHN_FIFO_ENTRY_SIZE + 1] = (uint8_t)(state / 4 % 2);
-    put(72, state / 8 % 5);
-    put(76, state / 40 % 6);
-    put(80, PORT);
+    put(bytes, 72, state / 8 % 5);
+    put(bytes, 76, state / 40 % 6);
+    put(bytes, 80, PORT);
     seen = word_of(state / 240);
 }
 
@@ -138,8 +132,8 @@ static void set_domain(unsigned state)
 static void set_guest(unsigned state)
 {
     fill();
-    put(68, state % 2 * 131072);
-    put(72, state / 2 % 6);
+    put(bytes, 68, state % 2 * 131072);
+    put(bytes, 72, state / 2 % 6);
     seen = word_of(state / 12);
 }
 

@@ -7,6 +7,7 @@
 
 #include "check.h"
 #include "evtchn_fifo.h"
+#include "words.h"
 
 #define ENTRIES (EVTCHN_FIFO_PORTS + 1u)
 
@@ -24,14 +25,6 @@ static struct input {
 
 /* bytes lent beyond a record, 5 at most; where they are odd, the ledger has a last odd byte */
 static size_t beyond;
-
-static void put(uint8_t *bytes, size_t at, uint32_t value)
-{
-    bytes[at] = (uint8_t)value;
-    bytes[at + 1] = (uint8_t)(value >> 8);
-    bytes[at + 2] = (uint8_t)(value >> 16);
-    bytes[at + 3] = (uint8_t)(value >> 24);
-}
 
 static void put_entry(uint32_t port, uint32_t entry)
 {

@@ -14,9 +14,8 @@ use word::Flag;
 use word::Port;
 use word::Queue;
 
-// What R2's reply reads of the record beside its call: the pages, the tail of the port's queue, that of its last queue.
+// What R2's reply reads of the record beside its call: the tail of the port's queue, and that of its last queue.
 pub struct View {
-    pub pages: u32,
     pub tail: u32,
     pub former: u32,
 }
@@ -201,11 +200,9 @@ pub fn reply_r2(call: Call, entry: u16, view: View, seen: u32) -> Move
     let priority = word::entry::priority_of(entry);
     let queue = word::entry::queue_of(priority);
     let port = call.port;
-    let former = records::effective_tail(view.pages, view.former);
-    let stale = stale_queue(entry, port, queue, former);
+    let stale = stale_queue(entry, port, queue, view.former);
     let moved = word::entry::linked_entry(entry, queue);
-    let tail = records::effective_tail(view.pages, view.tail);
-    let next = after_r2(call, queue, tail);
+    let next = after_r2(call, queue, view.tail);
     Move {
         queue: stale,
         tail: 0,

@@ -32,11 +32,11 @@ points! {
     R2NeverLinked = "R2: bit 9 clear, that queue's tail is p",
     R2SameQueue = "R2: last queue is q, its tail is p",
     R2OtherTail = "R2: last queue is another, its tail is not p",
-    R2StaleOutside = "R2: tail of the last queue is p, outside the array",
+    R2StaleOutside = "R2: tail of the last queue, outside the array, becomes 0",
     R2NoTail = "R2: T[q] is 0, to R5",
-    R2TailOutside = "R2: T[q] outside the array, to R5",
     R2TailIsPort = "R2: T[q] is p, to R5",
-    R2Tail = "R2: to R3",
+    R2Tail = "R2: T[q] in the array, to R3",
+    R2TailOutside = "R2: T[q] outside the array, to R3",
     R3Linked = "R3: seen LINKED, to R4",
     R3NotLinked = "R3: seen not LINKED, to R5",
     R4Taken1 = "R4: taken on try 1",
@@ -133,9 +133,9 @@ fn of_last_queue(domain: &Domain, port: Port, entry: Entry, queue: Queue) -> Opt
 fn of_tail(domain: &Domain, port: Port, queue: Queue) -> Point {
     match queue_value(&domain.tails, queue) {
         0 => Point::R2NoTail,
-        tail if !domain.in_array(Port(tail)) => Point::R2TailOutside,
         tail if tail == port.0 => Point::R2TailIsPort,
-        _ => Point::R2Tail,
+        tail if domain.in_array(Port(tail)) => Point::R2Tail,
+        _ => Point::R2TailOutside,
     }
 }
 

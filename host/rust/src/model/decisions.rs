@@ -18,9 +18,9 @@
 //  D9  `FlatCall::call`: a flat call whose owner is none is no call under way (reply gives 16, a
 //      start is accepted); any other pair of owner and stage follows the stage; a stage reads the
 //      fields that it needs, whatever the rest hold. The owner is carried along unchanged.
-//  D10 `Model::effective_tail`: a tail at or beyond the array's end counts as none both in "T[q]
-//      is none or p" and in "that queue's tail is p". The record keeps it as found, but for a
-//      call whose port is 0: `is_tail` compares numbers, none is 0, and so R2 clears it.
+//  D10 `Model::tail`: a tail is none where it is 0 and nowhere else (document 02, T-11), both in
+//      "T[q] is none or p" and in "that queue's tail is p"; one at or beyond the array's end is a
+//      tail like any other.
 //  D11 R4 on a record whose old word lacks LINKED: the cas is named and judged like any other.
 //  D12 A reply tests 16 and 14 and nothing else; a port of 0 or beyond the limit uses its entry
 //      where the lent ledger has one.
@@ -80,11 +80,6 @@ pub fn link_of(port: Port) -> Port {
 /// D5: the place of R3 and R4.
 pub fn tail_place(domain: &Domain, queue: Queue) -> Place {
     Place::Word(Port(queue_value(&domain.tails, queue)))
-}
-
-/// D10: whether a queue's tail is the port; none is the number 0.
-pub fn is_tail(tail: Option<Port>, port: Port) -> bool {
-    tail.unwrap_or(Port(0)) == port
 }
 
 /// D6: whether no further cas may be named.

@@ -2,7 +2,7 @@
 
 use super::access::{Access, Op};
 use super::answer::{Answer, Next};
-use super::decisions::{head_place, is_tail, one_more, set_queue_value, tail_place};
+use super::decisions::{head_place, one_more, set_queue_value, tail_place};
 use super::domain::{Call, Domain, Stage};
 use super::entry::Entry;
 use super::kinds::{Port, Queue};
@@ -114,13 +114,13 @@ impl Model {
             return End(Answer::Done);
         }
         let queue = entry.priority.queue();
-        let last_tail = self.effective_tail(domain, entry.last);
-        if entry.been_linked && self.moves(entry.last, queue) && is_tail(last_tail, port) {
+        let was_tail = self.tail(domain, entry.last) == Some(port);
+        if entry.been_linked && self.moves(entry.last, queue) && was_tail {
             set_queue_value(&mut domain.tails, entry.last, 0);
         }
         entry.last = queue;
         entry.been_linked = true;
-        match self.effective_tail(domain, queue) {
+        match self.tail(domain, queue) {
             Some(tail) if tail != port => Go(Stage::R3 { queue }),
             _ => Go(Stage::R5 { queue }),
         }

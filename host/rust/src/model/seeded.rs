@@ -52,8 +52,8 @@ pub enum Faults {
     BadIndexHead,
     /// Tell takes the smaller number.
     TellSmaller,
-    /// A tail at the array's end counts.
-    TailAtEnd,
+    /// A tail at or beyond the array's end counts as none.
+    OutsideIsNone,
     /// A port is cut to 32 bits.
     PortCut,
     /// A priority is cut to 32 bits.
@@ -94,7 +94,7 @@ impl Faults {
         (Faults::R5Value, "R5 value p -> T[q]"),
         (Faults::BadIndexHead, "18 leaves H[q]"),
         (Faults::TellSmaller, "tell min for max"),
-        (Faults::TailAtEnd, "effective tail < -> <="),
+        (Faults::OutsideIsNone, "a tail outside the array is none"),
     ];
 
     /// Every argument of 64 bits, cut.
@@ -227,11 +227,10 @@ impl Model {
         self.choose(Faults::TellSmaller, old.min(told), old.max(told))
     }
 
-    /// D10: the queue's tail, none where it is 0 or at or beyond the array's end.
-    pub(super) fn effective_tail(&self, domain: &Domain, queue: Queue) -> Option<Port> {
+    /// D10: the queue's tail, none where it is 0.
+    pub(super) fn tail(&self, domain: &Domain, queue: Queue) -> Option<Port> {
         let tail = Port(decisions::queue_value(&domain.tails, queue));
-        let at_end = self.has(Faults::TailAtEnd) && u64::from(tail.0) == domain.words();
-        let counts = tail.0 != 0 && (domain.in_array(tail) || at_end);
-        counts.then_some(tail)
+        let none = tail.0 == 0 || (self.has(Faults::OutsideIsNone) && !domain.in_array(tail));
+        (!none).then_some(tail)
     }
 }

@@ -1,8 +1,9 @@
 //! Readings A5.11 and A6.2: from fresh records, whatever the replies, arguments and ledgers,
-//! no access reaches outside and every call ends within nine accesses.
+//! no access reaches outside and every call ends within nine accesses. And a rule that takes a
+//! tail outside the array for none makes no difference.
 
 use evtchn_fifo_host::model::arbitrary::{hostile_step, ledger};
-use evtchn_fifo_host::model::{Model, Next, Place, Port, Side, Step, World};
+use evtchn_fifo_host::model::{Faults, Model, Next, Place, Port, Side, Step, World};
 use evtchn_fifo_host::random::Random;
 
 fn in_control_block(place: Place) -> bool {
@@ -48,17 +49,29 @@ fn begun(random: &mut Random) -> World {
     world
 }
 
+/// The same world, whose rule takes a tail outside the array for none.
+fn by_other_rule(world: &World) -> World {
+    World {
+        model: Model::new(Faults::OutsideIsNone),
+        ..world.clone()
+    }
+}
+
 /// The largest count of an answer of each side, after every check of a history.
 fn history(seed: u64, length: usize) -> [u32; 2] {
     let mut random = Random::new(seed);
     let mut world = begun(&mut random);
+    let mut other = by_other_rule(&world);
     let mut largest = [0; 2];
     for at in 0..length {
         if random.once_in(3) {
             world.ledger = ledger(&mut random);
+            other.ledger = world.ledger.clone();
         }
         let step = hostile_step(&mut random, &world);
         let next = world.step(step).next;
+        assert_eq!(other.step(step).next, next, "seed {seed} step {at}");
+        assert_eq!(by_other_rule(&world), other, "seed {seed} step {at}");
         assert!(hypervisor_reach(&world), "seed {seed} step {at} {step:?}");
         assert!(guest_reach(&world), "seed {seed} step {at} {step:?}");
         let counts = [

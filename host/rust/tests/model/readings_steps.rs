@@ -148,7 +148,7 @@ fn a3_8(model: Model) -> Outcome {
     Ok(())
 }
 
-/// A tail at or beyond the array's end counts as none and stays as found.
+/// A tail is none where it is 0; one at or beyond the array's end is a tail like any other.
 fn a3_9(model: Model) -> Outcome {
     let with_tail = |tail| {
         let mut run = raising(model);
@@ -156,14 +156,20 @@ fn a3_9(model: Model) -> Outcome {
         run.replies(&[0, P])[1].clone()
     };
     same!(with_tail(1023), "read w1023");
-    same!(with_tail(1024), "store h7 00000005");
-    same!(with_tail(u32::MAX), "store h7 00000005");
+    same!(with_tail(1024), "read w1024");
+    same!(with_tail(u32::MAX), "read w4294967295");
     same!(with_tail(0), "store h7 00000005");
     same!(with_tail(5), "store h7 00000005");
     let mut run = Run::begun(model);
     run.world.domain.tails[7] = 2000;
     same!(run.call(Step::Raise(5)), (4, 0));
     same!(run.world.domain.tails[7], 2000);
+    let mut run = raising(model);
+    run.set_entry(5, 0x0350);
+    run.world.domain.tails[5] = 5;
+    run.world.domain.pages = 0;
+    run.replies(&[0, P]);
+    same!(run.world.domain.tails[5], 0);
     Ok(())
 }
 

@@ -13,9 +13,6 @@ queue-of-requires c κs = search needs
 last-queue-requires : tie.Need-last-queue-requires
 last-queue-requires c κs = search needs
 
-u32-at-requires : tie.Need-u32-at-requires
-u32-at-requires c κs = search needs
-
 value-at-requires : tie.Need-value-at-requires
 value-at-requires c κs = search needs
 
@@ -24,7 +21,7 @@ value-at-requires-2 c κs = search needs
 
 returns : tie.Need-returns
 unfolding viewAt
-returns c = simp (c .value-at2 .ensures, c .before .value-at .ensures, c .before .before .u32-at .ensures, c .before .before .before .last-queue .ensures, c .before .before .before .before .queue-of .ensures, c .before .before .before .before .before .priority-of .ensures)
+returns c = simp (c .value-at2 .ensures, c .before .value-at .ensures, c .before .before .last-queue .ensures, c .before .before .before .queue-of .ensures, c .before .before .before .before .priority-of .ensures)
 
 pub view-at-spec : {M : Type 1} → statement M
 view-at-spec =
@@ -33,7 +30,6 @@ view-at-spec =
     priority-of-requires
     queue-of-requires
     last-queue-requires
-    u32-at-requires
     value-at-requires
     value-at-requires-2
     returns)

@@ -20,24 +20,18 @@ priority-of-requires c κs = search needs
 queue-of-requires : tie.Need-queue-of-requires
 queue-of-requires c κs = search needs
 
-effective-tail-requires : tie.Need-effective-tail-requires
-effective-tail-requires c κs = search needs
-
 stale-queue-requires : tie.Need-stale-queue-requires
 stale-queue-requires c κs = search needs
 
 linked-entry-requires : tie.Need-linked-entry-requires
 linked-entry-requires c κs = search needs
 
-effective-tail-requires-2 : tie.Need-effective-tail-requires-2
-effective-tail-requires-2 c κs = search needs
-
 after-r2-requires : tie.Need-after-r2-requires
 after-r2-requires c κs = search needs
 
 returns-2 : tie.Need-returns-2
 unfolding replyR2
-returns-2 c = simp (simp (c .before .before .before .before .before .before .before .before .before .has .ensures) at (c .before .before .before .before .before .before .before .before .if1 .left), c .after-r2 .ensures, c .before .effective-tail2 .ensures, c .before .before .linked-entry .ensures, c .before .before .before .stale-queue .ensures, c .before .before .before .before .effective-tail .ensures, c .before .before .before .before .before .before .queue-of .ensures, c .before .before .before .before .before .before .before .priority-of .ensures, c .before .before .before .before .before .before .before .before .before .has .ensures)
+returns-2 c = simp (simp (c .before .before .before .before .before .before .before .has .ensures) at (c .before .before .before .before .before .before .if1 .left), c .after-r2 .ensures, c .before .linked-entry .ensures, c .before .before .stale-queue .ensures, c .before .before .before .before .queue-of .ensures, c .before .before .before .before .before .priority-of .ensures, c .before .before .before .before .before .before .before .has .ensures)
 
 pub reply-r2-spec : {M : Type 1} → statement M
 reply-r2-spec =
@@ -48,9 +42,7 @@ reply-r2-spec =
     returns
     priority-of-requires
     queue-of-requires
-    effective-tail-requires
     stale-queue-requires
     linked-entry-requires
-    effective-tail-requires-2
     after-r2-requires
     returns-2)
