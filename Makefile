@@ -1,8 +1,8 @@
 # make demo SECONDS=n DOMAINS=n  many domains in threads over the proved archive; prints a table and checks its claims
 # make test                      the gate: layout, formatting, every proof from nothing, must-fail edits, programs, host tests
-# make lib                       both archives for C, in target/lib: for user space, and for a hypervisor
+# make lib                       both archives for C, in target/lib: for user space, and for a hypervisor; and the bitcode of both
 # make install PREFIX=DIR        archives, headers and a pkg-config file below DIR (default /usr/local); make uninstall PREFIX=DIR
-# make bench                     what six calls cost against hand-written C and the Rust model, as ratios; not part of the gate
+# make bench                     what calls cost, whole and inside, against hand-written C and the Rust model; not part of the gate
 # make fuzz MINUTES=n            the differential tests for n minutes, from fresh seeds
 # make mutants                   every edit under mutants/, which the prover must refuse; not part of the gate
 # make setup                     installs what the tests and the benchmark need beside the Rattle toolchain

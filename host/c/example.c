@@ -10,25 +10,6 @@ static evtchn_fifo_domain domain;
 static evtchn_fifo_guest guest;
 static uint16_t ledger[4096];
 
-/* The hypervisor's call, from its start to its answer. */
-static evtchn_fifo_next run(evtchn_fifo_next next)
-{
-    uint32_t seen;
-    while (evtchn_fifo_perform(&shared, next, &seen))
-        next = evtchn_fifo_domain_reply(&domain, ledger, 4096, seen);
-    return next;
-}
-
-/* The guest's service of one event. */
-static evtchn_fifo_next serve(void)
-{
-    evtchn_fifo_next next = evtchn_fifo_guest_service(&guest);
-    uint32_t seen;
-    while (evtchn_fifo_perform(&shared, next, &seen))
-        next = evtchn_fifo_guest_service_reply(&guest, seen);
-    return next;
-}
-
 int main(void)
 {
     evtchn_fifo_next next;
@@ -39,11 +20,13 @@ int main(void)
     evtchn_fifo_domain_expand_array(&domain, 0x1001, 0x2000);
     evtchn_fifo_guest_tell(&guest, EVTCHN_FIFO_PAGE_WORDS);
 
-    run(evtchn_fifo_domain_bind(&domain, ledger, 4096, 5));
-    next = run(evtchn_fifo_domain_raise(&domain, ledger, 4096, 5));
+    next = evtchn_fifo_domain_bind(&domain, ledger, 4096, 5);
+    evtchn_fifo_domain_run(&domain, ledger, 4096, &shared, next);
+    next = evtchn_fifo_domain_raise(&domain, ledger, 4096, 5);
+    next = evtchn_fifo_domain_run(&domain, ledger, 4096, &shared, next);
     printf("raise: answer %u after %u accesses\n", (unsigned)next.code, (unsigned)next.value);
     if (next.code == EVTCHN_FIFO_UPCALL_WANTED)
-        next = serve();
+        next = evtchn_fifo_guest_run(&guest, &shared, evtchn_fifo_guest_service(&guest));
     printf("service: answer %u, port %u\n", (unsigned)next.code, (unsigned)next.index);
     return 0;
 }

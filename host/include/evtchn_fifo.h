@@ -1,25 +1,29 @@
 /*
  * evtchn_fifo: Xen's FIFO event channel ABI as a library without shared state.
  *
- * The library never touches shared memory. A call under way names one atomic access at a time; the host performs it
- * (evtchn_fifo_atomic.h does) and hands back the word that it saw; the library names the next access or gives its answer.
+ * The library never touches shared memory. A call under way names one atomic access at a time; the host performs it and hands back
+ * the word that it saw; the library names the next access or gives its answer. evtchn_fifo_atomic.h does that to the answer:
  *
  *     evtchn_fifo_next next = evtchn_fifo_domain_raise(&domain, ledger, entries, port);
- *     while (evtchn_fifo_is_access(next)) {
- *         uint32_t seen;
- *         if (!evtchn_fifo_perform(&shared, next, &seen)) break;
- *         next = evtchn_fifo_domain_reply(&domain, ledger, entries, seen);
- *     }
+ *     next = evtchn_fifo_domain_run(&domain, ledger, entries, &shared, next);
  *
- * Archives (x86-64 System V, no libc, no globals, reentrant; the same proved code):
+ * or one access at a time:
+ *
+ *     while (evtchn_fifo_perform(&shared, next, &seen))
+ *         next = evtchn_fifo_domain_reply(&domain, ledger, entries, seen);
+ *
+ * The same proved code three times (x86-64 System V, no libc, no globals, reentrant):
  *     libevtchn_fifo.a         for user space: uses SSE registers and the red zone
  *     libevtchn_fifo_kernel.a  for a hypervisor: uses neither
- * No function needs more than EVTCHN_FIFO_STACK bytes of stack, and none calls anything outside the archive. Compile a host in
- * user space by gcc with -fno-tree-slp-vectorize: else what a call gives passes through an SSE register, at the cost of a reply.
+ *     evtchn_fifo.bc           bitcode of LLVM 22, instead of an archive, for a host compiled by clang 22 or later with -O3 -mllvm
+ *                              -inline-threshold=5000 -Xclang -mlink-builtin-bitcode -Xclang evtchn_fifo.bc: library and run loops are
+ *                              optimised as one, with the registers and the red zone that the host is allowed
+ * No function of an archive needs more than EVTCHN_FIFO_STACK bytes of stack, and none calls anything outside it.
  *
  * Locks. A domain's record and its ledger belong to one lock, held from a call's start to its answer; a second call meanwhile
  * is refused (15). A guest's record belongs to its VCPU. evtchn_fifo_mask needs no lock.
- * Buffers of one call must not overlap. They may have any alignment, and may be NULL where their length is 0.
+ * Buffers of one call must not overlap. They may have any alignment, and may be NULL where their length is 0. A record that begins at a
+ * multiple of 64 bytes lies in two cache lines.
  *
  * Any bytes of the right length are a record: no contents make it invalid, and nothing traps. A refusal leaves every byte of
  * record and ledger as it was, but for 7, which ends the bind under way, and 18, which ends the service and leaves the head and
@@ -54,7 +58,8 @@ extern "C" {
  *     0 given (0, or any other number)   4 pages   8 to 71 tails of queues 0 to 15 (0: none)
  *     call under way: 72 owner (1 bind, 2 close, 3 raise, 4 unmask)   76 stage (0 the first access, 1 R2, 2 R3, 3 R4, 4 R5, 5 R6)
  *     80 port   84 queue   88 word   92 tries   96 count
- * No call is under way where owner or stage is none of these. All bytes 0 are a fresh record.
+ * No call is under way where owner or stage is none of these: a call that ends sets its owner to 0 and leaves its other words as
+ * they were, which then mean nothing. All bytes 0 are a fresh record.
  */
 #define EVTCHN_FIFO_DOMAIN_SIZE 100u
 
@@ -62,7 +67,8 @@ extern "C" {
  * A guest's record, in the same words:
  *     0 to 63 heads of queues 0 to 15   64 local ready bits   68 number of words
  *     service under way: 72 stage (1 G0, 2 G1, 3 G2, 4 G3, 5 G4)   76 port   80 queue   84 count
- * No service is under way where stage is none of these. All bytes 0 are a fresh record.
+ * No service is under way where stage is none of these: a service that ends sets its stage to 0 and leaves port, queue and count.
+ * All bytes 0 are a fresh record.
  */
 #define EVTCHN_FIFO_GUEST_SIZE 88u
 
@@ -83,7 +89,7 @@ extern "C" {
  * The most stack that a call of either archive needs, return addresses with it. The archive for user space may write to the
  * red zone below that.
  */
-#define EVTCHN_FIFO_STACK 80u
+#define EVTCHN_FIFO_STACK 24u
 
 /* ---- what a call or a reply comes to ---- */
 

@@ -1,6 +1,6 @@
 /*
- * evtchn_fifo_atomic: performs the access that evtchn_fifo names, with the compiler's atomic builtins on plain words.
- * All are sequentially consistent. An access outside the words that are mapped is not performed.
+ * evtchn_fifo_atomic: performs the accesses that evtchn_fifo names, with the compiler's atomic builtins on plain words, and runs
+ * calls to their answer. All accesses are sequentially consistent. One outside the words that are mapped is not performed.
  */
 #ifndef EVTCHN_FIFO_ATOMIC_H
 #define EVTCHN_FIFO_ATOMIC_H
@@ -18,57 +18,170 @@ typedef struct evtchn_fifo_shared {
     uint32_t words;         /* how many event words are mapped */
 } evtchn_fifo_shared;
 
-/* The word that an access is made on; NULL where it is not mapped, or next is no access. */
-static inline uint32_t *evtchn_fifo_word_of(const evtchn_fifo_shared *shared, evtchn_fifo_next next)
+/* ---- one access ---- */
+
+#define EVTCHN_FIFO_INLINE static inline __attribute__((always_inline))
+#define EVTCHN_FIFO_ACCESS(kind, place) (0x100u + EVTCHN_FIFO_##kind * 16u + EVTCHN_FIFO_##place)
+
+/*
+ * What a call gives, in the two registers that it comes in. Of four words gcc makes a vector, and each access waits for its way
+ * through an SSE register.
+ */
+typedef struct evtchn_fifo_halves {
+    uint64_t access;   /* code, and index above it */
+    uint64_t operands; /* value, and old above it */
+} evtchn_fifo_halves;
+
+EVTCHN_FIFO_INLINE evtchn_fifo_halves evtchn_fifo_apart(evtchn_fifo_next next)
 {
-    if (!evtchn_fifo_is_access(next))
-        return NULL;
-    switch (evtchn_fifo_place_of(next)) {
-    case EVTCHN_FIFO_WORD:
-        if (next.index >= shared->words)
-            return NULL;
-        return shared->pages[next.index / EVTCHN_FIFO_PAGE_WORDS] + next.index % EVTCHN_FIFO_PAGE_WORDS;
-    case EVTCHN_FIFO_READY:
-        return shared->control;
-    case EVTCHN_FIFO_HEAD:
-        if (next.index >= EVTCHN_FIFO_QUEUES || shared->control == NULL)
-            return NULL;
-        return shared->control + 2 + next.index;
-    default:
-        return NULL;
-    }
+    evtchn_fifo_halves halves;
+    __builtin_memcpy(&halves.access, (const char *)&next, 8);
+    __builtin_memcpy(&halves.operands, (const char *)&next + 8, 8);
+    return halves;
 }
 
-/* Performs an access, and says whether it did; seen is the word to hand back. A store sees nothing and hands back 0. */
-static inline int evtchn_fifo_perform(const evtchn_fifo_shared *shared, evtchn_fifo_next next, uint32_t *seen)
+EVTCHN_FIFO_INLINE evtchn_fifo_next evtchn_fifo_together(evtchn_fifo_halves halves)
 {
-    uint32_t *word = evtchn_fifo_word_of(shared, next);
-    if (word == NULL)
-        return 0;
-    switch (evtchn_fifo_kind_of(next)) {
+    evtchn_fifo_next next;
+    __builtin_memcpy((char *)&next, &halves.access, 8);
+    __builtin_memcpy((char *)&next + 8, &halves.operands, 8);
+    return next;
+}
+
+EVTCHN_FIFO_INLINE int evtchn_fifo_perform_on(uint32_t *word, unsigned kind, uint64_t operands, uint32_t *seen)
+{
+    uint32_t value = (uint32_t)operands;
+    switch (kind) {
     case EVTCHN_FIFO_READ:
         *seen = __atomic_load_n(word, __ATOMIC_SEQ_CST);
         return 1;
     case EVTCHN_FIFO_STORE:
-        __atomic_store_n(word, next.value, __ATOMIC_SEQ_CST);
+        __atomic_store_n(word, value, __ATOMIC_SEQ_CST);
         *seen = 0;
         return 1;
     case EVTCHN_FIFO_OR:
-        *seen = __atomic_fetch_or(word, next.value, __ATOMIC_SEQ_CST);
+        *seen = __atomic_fetch_or(word, value, __ATOMIC_SEQ_CST);
         return 1;
     case EVTCHN_FIFO_AND:
-        *seen = __atomic_fetch_and(word, next.value, __ATOMIC_SEQ_CST);
+        *seen = __atomic_fetch_and(word, value, __ATOMIC_SEQ_CST);
         return 1;
     case EVTCHN_FIFO_SWAP:
-        *seen = __atomic_exchange_n(word, next.value, __ATOMIC_SEQ_CST);
+        *seen = __atomic_exchange_n(word, value, __ATOMIC_SEQ_CST);
         return 1;
     case EVTCHN_FIFO_CAS:
-        *seen = next.old;
-        __atomic_compare_exchange_n(word, seen, next.value, 0, __ATOMIC_SEQ_CST, __ATOMIC_SEQ_CST);
+        *seen = (uint32_t)(operands >> 32);
+        __atomic_compare_exchange_n(word, seen, value, 0, __ATOMIC_SEQ_CST, __ATOMIC_SEQ_CST);
         return 1;
     default:
         return 0;
     }
+}
+
+EVTCHN_FIFO_INLINE int evtchn_fifo_perform_event(const evtchn_fifo_shared *shared, evtchn_fifo_halves next, unsigned kind, uint32_t *seen)
+{
+    uint32_t port = (uint32_t)(next.access >> 32);
+    if (port >= shared->words)
+        return 0;
+    return evtchn_fifo_perform_on(shared->pages[next.access >> 42] + port % EVTCHN_FIFO_PAGE_WORDS, kind, next.operands, seen);
+}
+
+EVTCHN_FIFO_INLINE int evtchn_fifo_perform_ready(const evtchn_fifo_shared *shared, evtchn_fifo_halves next, unsigned kind, uint32_t *seen)
+{
+    return shared->control != NULL && evtchn_fifo_perform_on(shared->control, kind, next.operands, seen);
+}
+
+EVTCHN_FIFO_INLINE int evtchn_fifo_perform_head(const evtchn_fifo_shared *shared, evtchn_fifo_halves next, unsigned kind, uint32_t *seen)
+{
+    uint32_t queue = (uint32_t)(next.access >> 32);
+    if (queue >= EVTCHN_FIFO_QUEUES || shared->control == NULL)
+        return 0;
+    return evtchn_fifo_perform_on(shared->control + 2 + queue, kind, next.operands, seen);
+}
+
+/*
+ * The accesses that the library names for each side, by their whole code: two or three comparisons tell kind and place. Of all
+ * accesses in one switch compilers make a table, which costs more, and which a hypervisor may not want.
+ */
+EVTCHN_FIFO_INLINE int evtchn_fifo_perform_for_domain(const evtchn_fifo_shared *shared, evtchn_fifo_halves next, uint32_t *seen)
+{
+    switch ((uint32_t)next.access) {
+    case EVTCHN_FIFO_ACCESS(READ, WORD): return evtchn_fifo_perform_event(shared, next, EVTCHN_FIFO_READ, seen);
+    case EVTCHN_FIFO_ACCESS(OR, WORD): return evtchn_fifo_perform_event(shared, next, EVTCHN_FIFO_OR, seen);
+    case EVTCHN_FIFO_ACCESS(AND, WORD): return evtchn_fifo_perform_event(shared, next, EVTCHN_FIFO_AND, seen);
+    case EVTCHN_FIFO_ACCESS(CAS, WORD): return evtchn_fifo_perform_event(shared, next, EVTCHN_FIFO_CAS, seen);
+    case EVTCHN_FIFO_ACCESS(STORE, HEAD): return evtchn_fifo_perform_head(shared, next, EVTCHN_FIFO_STORE, seen);
+    case EVTCHN_FIFO_ACCESS(OR, READY): return evtchn_fifo_perform_ready(shared, next, EVTCHN_FIFO_OR, seen);
+    default: return 0;
+    }
+}
+
+EVTCHN_FIFO_INLINE int evtchn_fifo_perform_for_guest(const evtchn_fifo_shared *shared, evtchn_fifo_halves next, uint32_t *seen)
+{
+    switch ((uint32_t)next.access) {
+    case EVTCHN_FIFO_ACCESS(READ, WORD): return evtchn_fifo_perform_event(shared, next, EVTCHN_FIFO_READ, seen);
+    case EVTCHN_FIFO_ACCESS(AND, WORD): return evtchn_fifo_perform_event(shared, next, EVTCHN_FIFO_AND, seen);
+    case EVTCHN_FIFO_ACCESS(READ, HEAD): return evtchn_fifo_perform_head(shared, next, EVTCHN_FIFO_READ, seen);
+    case EVTCHN_FIFO_ACCESS(SWAP, READY): return evtchn_fifo_perform_ready(shared, next, EVTCHN_FIFO_SWAP, seen);
+    default: return 0;
+    }
+}
+
+/* Any kind on any place. */
+static inline int evtchn_fifo_perform_any(const evtchn_fifo_shared *shared, evtchn_fifo_halves next, uint32_t *seen)
+{
+    unsigned kind = ((uint32_t)next.access - 0x100u) / 16u;
+    switch ((uint32_t)next.access % 16u) {
+    case EVTCHN_FIFO_WORD: return evtchn_fifo_perform_event(shared, next, kind, seen);
+    case EVTCHN_FIFO_READY: return evtchn_fifo_perform_ready(shared, next, kind, seen);
+    case EVTCHN_FIFO_HEAD: return evtchn_fifo_perform_head(shared, next, kind, seen);
+    default: return 0;
+    }
+}
+
+/* Performs an access, and says whether it did; seen is the word to hand back. A store sees nothing and hands back 0. */
+EVTCHN_FIFO_INLINE int evtchn_fifo_perform(const evtchn_fifo_shared *shared, evtchn_fifo_next next, uint32_t *seen)
+{
+    evtchn_fifo_halves halves = evtchn_fifo_apart(next);
+    if (evtchn_fifo_perform_for_domain(shared, halves, seen))
+        return 1;
+    return evtchn_fifo_is_access(next) && evtchn_fifo_perform_any(shared, halves, seen);
+}
+
+/* ---- calls to their answer ---- */
+
+/*
+ * The turns of a run: an access, its reply, and so on. With the library's bitcode clang joins the ways out of a reply with the accesses
+ * that they name, but only in a loop that begins with the reply; gcc makes less of a second copy of the access.
+ */
+#ifdef __clang__
+#define EVTCHN_FIFO_TURNS(access, reply) if (access) do reply; while (access)
+#else
+#define EVTCHN_FIFO_TURNS(access, reply) while (access) reply
+#endif
+
+/*
+ * Performs what a call's start named, hands back the word seen, and so on to the answer. The ledger is the one lent at the start, with
+ * no fewer entries, so that no reply is refused with 14. An access that is not mapped comes back unperformed (evtchn_fifo_is_access
+ * tells), its call still under way: another run goes on with it. A mask takes no reply, and so no run.
+ */
+EVTCHN_FIFO_INLINE evtchn_fifo_next evtchn_fifo_domain_run(evtchn_fifo_domain *domain, uint16_t *ledger, size_t entries,
+                                                           const evtchn_fifo_shared *shared, evtchn_fifo_next next)
+{
+    evtchn_fifo_halves halves = evtchn_fifo_apart(next);
+    uint32_t seen;
+    EVTCHN_FIFO_TURNS(evtchn_fifo_perform_for_domain(shared, halves, &seen),
+                      halves = evtchn_fifo_apart(evtchn_fifo_domain_reply(domain, ledger, entries, seen)));
+    return evtchn_fifo_together(halves);
+}
+
+/* The same for a service. */
+EVTCHN_FIFO_INLINE evtchn_fifo_next evtchn_fifo_guest_run(evtchn_fifo_guest *guest, const evtchn_fifo_shared *shared, evtchn_fifo_next next)
+{
+    evtchn_fifo_halves halves = evtchn_fifo_apart(next);
+    uint32_t seen;
+    EVTCHN_FIFO_TURNS(evtchn_fifo_perform_for_guest(shared, halves, &seen),
+                      halves = evtchn_fifo_apart(evtchn_fifo_guest_service_reply(guest, seen)));
+    return evtchn_fifo_together(halves);
 }
 
 #ifdef __cplusplus

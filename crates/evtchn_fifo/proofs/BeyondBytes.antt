@@ -27,10 +27,9 @@ use Rattle.calls.specs.Records.{isFree}
 use Rattle.calls.specs.Hypervisor.{acceptInit, acceptExpand}
 use Rattle.calls.specs.Guest.{isServing, serviceStart}
 use Rattle.evtchn_fifo.specs.Numbers.{putNumber, putNumbers, putValue, narrow}
-use Rattle.evtchn_fifo.specs.declared.encoded.EncodedNext.{EncodedNext}
-use Rattle.evtchn_fifo.specs.Encoded.{Wrote, Carried, carried, Freshened}
+use Rattle.evtchn_fifo.specs.Encoded.{EncodedNext, Wrote, Carried, carried, Freshened}
 use Rattle.evtchn_fifo.specs.Ledger.{entries, entryIn, putEntry, fillEntries, freshLedgerBytes}
-use Rattle.evtchn_fifo.specs.DomainRecord.{domainSize, callAt, ownerAt, givenAt, pagesAt, putCall, putMove, putDomain}
+use Rattle.evtchn_fifo.specs.DomainRecord.{domainSize, callAt, ownerAt, givenAt, pagesAt, putNext, putCall, putMove, putDomain}
 use Rattle.evtchn_fifo.specs.GuestRecord.{guestSize, serviceAt, withoutHeads, putService, putGuestMove, putGuest}
 use Rattle.evtchn_fifo.specs.Hypervisor.{startsOf, onPort, startBytes, initBytes, initBytesOf, expandBytes, expandBytesOf, replyBytes, replyFoundBytes, moveAt, moveBytes, freshDomainBytes}
 use Rattle.evtchn_fifo.specs.Guest.{beganBytes, serviceBytes, guestMoveAt, guestMoveBytes, serviceReplyBytes, tellBytes, freshGuestBytes}
@@ -70,15 +69,15 @@ four : (size : ℕ) (s : List ℕ) (i v : ℕ) → i + 4 ≤ size → Beyond siz
 four size s i v h = number size 3 s i v h
 
 call : (r : List ℕ) (c : Call) → Beyond domainSize r (putCall r c)
-unfolding putCall
+unfolding putCall putNext
 call r c =
     then
     (then
     (then
     (then
     (then
-    (then (four domainSize r 72 _ (omega arith)) (four domainSize _ 76 _ (omega arith)))
-    (four domainSize _ 80 _ (omega arith)))
+    (then (four domainSize r 72 _ (omega arith)) (four domainSize _ 80 _ (omega arith)))
+    (four domainSize _ 76 _ (omega arith)))
     (four domainSize _ 84 _ (omega arith)))
     (four domainSize _ 88 _ (omega arith)))
     (four domainSize _ 92 _ (omega arith)))
@@ -131,8 +130,14 @@ starts n r t p (begin.Refused a) = neither
 starts n r t p (begin.Begun c) = record { domain = call r c; ledger = stays }
 starts n r t p (begin.Settled e) = record { domain = stays; ledger = entry t (p .0) e }
 
+bytes-if : (size : ℕ) (r : List ℕ) (b : Bool) (x y : List ℕ) → Beyond size r x → Beyond size r y → Beyond size r (cond b x y)
+bytes-if size r true x y a b = a
+bytes-if size r false x y a b = b
+
 moves : (r : List ℕ) (m : Move) → Beyond domainSize r (putMove r m)
-moves r m = then (call r (m .call)) (value domainSize 8 _ (m .queue .0) (m .tail) (omega arith))
+moves r m =
+    let tailed = value domainSize 8 r (m .queue .0) (m .tail) (omega arith) in
+    bytes-if domainSize r (isFree (m .call .owner)) _ _ (then tailed (four domainSize _ 72 0 (omega arith))) (then tailed (call _ (m .call)))
 
 finds : (n : ℕ) (r t : List ℕ) (seen : ℕ) (f : Lookup) → BothBeyond r t (replyFoundBytes n r t seen f)
 unfolding moveBytes
@@ -152,7 +157,9 @@ serves r c (next.Answer a count) = stays
 serves r c (next.Access x) = service r c
 
 guest-moves : (r : List ℕ) (m : GuestMove) → Beyond guestSize r (putGuestMove r m)
-guest-moves r m = then (then (service r (m .call)) (four guestSize _ 64 (m .ready) (omega arith))) (value guestSize 0 _ (m .queue .0) (m .head) (omega arith))
+guest-moves r m =
+    let readied = then (four guestSize r 64 (m .ready) (omega arith)) (value guestSize 0 _ (m .queue .0) (m .head) (omega arith)) in
+    bytes-if guestSize r (isServing (m .call .stage)) _ _ (then readied (service _ (m .call))) (then readied (four guestSize _ 72 0 (omega arith)))
 
 pub beyond-stays : (n : ℕ) → BeyondStays n
 unfolding onPort replyBytes initBytes expandBytes serviceBytes serviceReplyBytes guestMoveBytes tellBytes freshDomainBytes freshGuestBytes freshLedgerBytes putDomain putGuest

@@ -1,12 +1,12 @@
 -- A domain's record in bytes: what a call writes, decoded.
 -- Assumes nothing.
-use Prim.Native.Nat.{ℕ, _+_, _≤_}
+use Prim.Native.Nat.{ℕ}
 use mathlib.Core.Path.{_≡_, refl, sym, ap, _∙_}
-use mathlib.Core.Bool.{Bool, true, false, not}
+use mathlib.Core.Bool.{Bool, true, false, cond, not, false≢true}
 use mathlib.Core.List.{List}
-use lib.ListN.{length, getD, set}
+use lib.ListN.{length, set}
 use lib.Dec.{leb, ltb, eqb}
-use borrow.Author.Tests.{leb-true, leb-false, not-true, not-false}
+use borrow.Author.Tests.{leb-true}
 use native.Mathlib.Omega.{arith}
 use Rattle.word.specs.Entry.{priority, lastQueue}
 use Rattle.calls.specs.declared.types.Owner.{Owner}
@@ -17,13 +17,13 @@ use Rattle.calls.specs.declared.types.Call.{Call}
 use Rattle.calls.specs.declared.types.Domain.{Domain}
 use Rattle.calls.specs.declared.types.Answer.{Answer}
 use Rattle.calls.specs.declared.hypervisor.stage.Move.{Move}
-use Rattle.calls.specs.Records.{isFree, withCall}
-use Rattle.calls.specs.Hypervisor.{viewOf, moved, nextOf, dueAt, due}
+use Rattle.calls.specs.Records.{isFree, idleCall, withCall}
+use Rattle.calls.specs.Hypervisor.{viewOf, moved, nextOf, due}
 use Rattle.evtchn_fifo.specs.Numbers.{numberAt, putNumber, numbersAt, putValue, putValues}
 use Rattle.evtchn_fifo.specs.Encoded.{encodedNext}
-use Rattle.evtchn_fifo.specs.DomainRecord.{domainSize, tailAt, putTail, ownerCode, ownerOf, stageCode, stageOf, givenCode, givenAt, ownerAt, callAt, viewAt, domainAt, putCall, putMove, putDomain}
-use Rattle.evtchn_fifo.specs.Hypervisor.{nextAt, tailFor}
-use Rattle.evtchn_fifo.proofs.NumberLaws.{value-set, value-other, value-same, value-beyond, length-put, read-back, kept-before, kept-after, numbers-kept, value-is, values-set, value-before, value-after, length-puts, kept-below, sixteen-back, numbers-after}
+use Rattle.evtchn_fifo.specs.DomainRecord.{putTail, ownerCode, ownerOf, stageCode, stageOf, givenCode, givenAt, ownerAt, callAt, viewAt, domainAt, orIdle, putNext, putCall, putEnd, putMove, putDomain}
+use Rattle.evtchn_fifo.specs.Hypervisor.{nextAt}
+use Rattle.evtchn_fifo.proofs.NumberLaws.{length-value, length-put, read-back, kept-before, kept-after, numbers-kept, value-is, values-set, value-before, value-after, length-puts, kept-below, sixteen-back, numbers-after}
 
 -- ---- codes
 
@@ -59,33 +59,29 @@ given-back false = refl
 -- ---- the call under way, written and read
 
 call-back : (r : List ℕ) (c : Call) → leb 100 (length r) ≡ true → callAt (putCall r c) ≡ c
-unfolding callAt ownerAt putCall
-call-back r c h = simp (read-back 100, kept-before, length-put, h, stage-known, owner-back, stage-back)
-
-length-call : (r : List ℕ) (c : Call) → length (putCall r c) ≡ length r
-unfolding putCall
-length-call r c = simp length-put
+unfolding callAt ownerAt putCall putNext
+call-back r c h = simp (read-back 100, kept-before, kept-after, length-put, h, stage-known, owner-back, stage-back)
 
 given-kept : (r : List ℕ) (c : Call) → givenAt (putCall r c) ≡ givenAt r
-unfolding givenAt putCall
+unfolding givenAt putCall putNext
 given-kept r c = simp kept-before
 
 pages-kept : (r : List ℕ) (c : Call) → numberAt 3 (putCall r c) 4 ≡ numberAt 3 r 4
-unfolding putCall
+unfolding putCall putNext
 pages-kept r c = simp kept-before
 
 tails-kept : (r : List ℕ) (c : Call) → numbersAt 3 (putCall r c) 8 16 ≡ numbersAt 3 r 8 16
-unfolding putCall
+unfolding putCall putNext
 tails-kept r c = simp numbers-kept
 
 -- the record with a call under way
-pub domain-call : (r : List ℕ) (c : Call) → leb 100 (length r) ≡ true → domainAt (putCall r c) ≡ withCall (domainAt r) c
+pub domain-call : (r : List ℕ) (c : Call) → leb 100 (length r) ≡ true → domainAt (putCall r c) ≡ withCall (domainAt r) (orIdle c)
 unfolding domainAt
 domain-call r c h = rw (given-kept r c, pages-kept r c, tails-kept r c, call-back r c h)
 
 -- ---- one tail changed
 
-call-apart : (r : List ℕ) (q v : ℕ) → callAt (putValue 8 r q v) ≡ callAt r
+pub call-apart : (r : List ℕ) (q v : ℕ) → callAt (putValue 8 r q v) ≡ callAt r
 unfolding callAt ownerAt
 call-apart r q v = simp value-after
 
@@ -94,7 +90,7 @@ unfolding givenAt
 given-apart r q v = simp value-before
 
 abbrev tailed : List ℕ → ℕ → ℕ → Domain
-tailed r q v = record { given = givenAt r; pages = numberAt 3 r 4; tails = set (numbersAt 3 r 8 16) q v; call = callAt r }
+tailed r q v = record { given = givenAt r; pages = numberAt 3 r 4; tails = set (numbersAt 3 r 8 16) q v; call = orIdle (callAt r) }
 
 domain-tail : (r : List ℕ) (q v : ℕ) → leb 100 (length r) ≡ true → domainAt (putValue 8 r q v) ≡ tailed r q v
 unfolding domainAt
@@ -102,14 +98,60 @@ domain-tail r q v h =
     let l = leb-true 100 (length r) h in
     rw (given-apart r q v, value-before 8 r q v 4 refl, values-set 8 r q v (omega arith), call-apart r q v)
 
-tailed-call : (r : List ℕ) (m : Move) → leb 100 (length r) ≡ true → tailed (putCall r (m .call)) (m .queue .0) (m .tail) ≡ moved (domainAt r) m
-unfolding domainAt moved
-tailed-call r m h = rw (given-kept r (m .call), pages-kept r (m .call), tails-kept r (m .call), call-back r (m .call) h)
+-- ---- the call ended
+
+free-none : (o : Owner) → isFree o ≡ true → o ≡ owner.None
+unfolding isFree
+free-none owner.None e = refl
+free-none owner.Bind e = absurd (false≢true e)
+free-none owner.Close e = absurd (false≢true e)
+free-none owner.Raise e = absurd (false≢true e)
+free-none owner.Unmask e = absurd (false≢true e)
+
+owner-by : (c : Call) (b : Bool) → isFree (c .owner) ≡ b → orIdle c .owner ≡ c .owner
+unfolding orIdle
+owner-by c true e = rw e (sym (free-none (c .owner) e))
+owner-by c false e = rw e
+
+pub or-owner : (c : Call) → orIdle c .owner ≡ c .owner
+or-owner c = owner-by c (isFree (c .owner)) refl
+
+pub or-busy : (c : Call) → isFree (c .owner) ≡ false → orIdle c ≡ c
+unfolding orIdle
+or-busy c e = rw e
+
+or-free : (c : Call) → isFree (c .owner) ≡ true → orIdle c ≡ idleCall
+unfolding orIdle
+or-free c e = rw e
+
+none-if : (b : Bool) → isFree (cond b owner.None owner.None) ≡ true
+unfolding isFree
+none-if true = refl
+none-if false = refl
+
+ended-free : (r : List ℕ) → leb 100 (length r) ≡ true → isFree (callAt (putEnd r) .owner) ≡ true
+unfolding callAt ownerAt ownerOf
+ended-free r h = rw (read-back 100 r 72 0 h refl) (none-if (ltb (numberAt 3 (putEnd r) 76) 6))
+
+pub domain-end : (r : List ℕ) → leb 100 (length r) ≡ true → domainAt (putEnd r) ≡ withCall (domainAt r) idleCall
+unfolding domainAt givenAt
+domain-end r h = rw (kept-before r 72 0 0 refl, kept-before r 72 0 4 refl, numbers-kept r 72 0 8 refl, or-free (callAt (putEnd r)) (ended-free r h))
 
 -- the record after a stage
-pub domain-move : (r : List ℕ) (m : Move) → leb 100 (length r) ≡ true → domainAt (putMove r m) ≡ moved (domainAt r) m
-domain-move r m h =
-    domain-tail (putCall r (m .call)) (m .queue .0) (m .tail) (rw (length-call r (m .call)) h) ∙ tailed-call r m h
+move-by : (r : List ℕ) (m : Move) (b : Bool) → isFree (m .call .owner) ≡ b → leb 100 (length r) ≡ true → orIdle (m .call) ≡ m .call → domainAt (putMove r m) ≡ withCall (tailed r (m .queue .0) (m .tail)) (m .call)
+move-by r m true e h i =
+    let s = putTail r (m .queue .0) (m .tail) in
+    rw e (domain-end s (rw (length-value 8 r (m .queue .0) (m .tail)) h) ∙ ap (λ (d : Domain). withCall d idleCall) (domain-tail r (m .queue .0) (m .tail) h) ∙ ap (λ (c : Call). withCall (tailed r (m .queue .0) (m .tail)) c) (sym (or-free (m .call) e) ∙ i))
+move-by r m false e h i =
+    let s = putTail r (m .queue .0) (m .tail) in
+    rw e (domain-call s (m .call) (rw (length-value 8 r (m .queue .0) (m .tail)) h) ∙ ap (λ (d : Domain). withCall d (orIdle (m .call))) (domain-tail r (m .queue .0) (m .tail) h) ∙ ap (λ (c : Call). withCall (tailed r (m .queue .0) (m .tail)) c) i)
+
+tailed-moved : (r : List ℕ) (m : Move) → withCall (tailed r (m .queue .0) (m .tail)) (m .call) ≡ moved (domainAt r) m
+unfolding domainAt moved
+tailed-moved r m = refl
+
+pub domain-move : (r : List ℕ) (m : Move) → leb 100 (length r) ≡ true → orIdle (m .call) ≡ m .call → domainAt (putMove r m) ≡ moved (domainAt r) m
+domain-move r m h i = move-by r m (isFree (m .call .owner)) refl h i ∙ tailed-moved r m
 
 -- ---- given and pages changed
 
@@ -129,11 +171,11 @@ domain-pages r v h = simp (read-back 100, kept-before, kept-after, h, numbers-af
 
 -- ---- a record written whole
 
-with-parts : (w : List ℕ) (d : Domain) → givenAt w ≡ d .given → numberAt 3 w 4 ≡ d .pages → numbersAt 3 w 8 16 ≡ d .tails → withCall (domainAt w) (d .call) ≡ d
+with-parts : (w : List ℕ) (d : Domain) → givenAt w ≡ d .given → numberAt 3 w 4 ≡ d .pages → numbersAt 3 w 8 16 ≡ d .tails → withCall (domainAt w) (orIdle (d .call)) ≡ withCall d (orIdle (d .call))
 unfolding domainAt
 with-parts w d g p t = rw (g, p, t)
 
-pub domain-back : (r : List ℕ) (d : Domain) → leb 100 (length r) ≡ true → length (d .tails) ≡ 16 → domainAt (putDomain r d) ≡ d
+pub domain-back : (r : List ℕ) (d : Domain) → leb 100 (length r) ≡ true → length (d .tails) ≡ 16 → domainAt (putDomain r d) ≡ withCall d (orIdle (d .call))
 unfolding putDomain givenAt
 domain-back r d h n =
     let s = putNumber 3 (putNumber 3 r 0 (givenCode (d .given))) 4 (d .pages) in
@@ -151,66 +193,39 @@ pub view-is : (r : List ℕ) (e : ℕ) → viewAt r e ≡ viewOf (domainAt r) e
 unfolding viewAt viewOf domainAt
 view-is r e = rw (value-is 8 r (priority e), value-is 8 r (lastQueue e))
 
-next-by : (n : ℕ) (r : List ℕ) (a : Answer) (k : ℕ) (b : Bool) → isFree (callAt r .owner) ≡ b → nextAt n r (callAt r) a k ≡ encodedNext (nextOf n (domainAt r) a k)
-unfolding nextAt nextOf domainAt encodedNext
-next-by n r a k true e = rw e
-next-by n r a k false e = rw (e, value-is 8 r (callAt r .queue .0))
-
--- the access that is due, or the answer
-pub next-is : (n : ℕ) (r : List ℕ) (a : Answer) (k : ℕ) → nextAt n r (callAt r) a k ≡ encodedNext (nextOf n (domainAt r) a k)
-next-is n r a k = next-by n r a k (isFree (callAt r .owner)) refl
-
--- the same after a call was written
-pub next-call : (n : ℕ) (r : List ℕ) (c : Call) (a : Answer) (k : ℕ) → leb 100 (length r) ≡ true → nextAt n (putCall r c) c a k ≡ encodedNext (nextOf n (withCall (domainAt r) c) a k)
-next-call n r c a k h =
-    ap (λ (x : Call). nextAt n (putCall r c) x a k) (sym (call-back r c h)) ∙ next-is n (putCall r c) a k ∙ ap (λ (d : Domain). encodedNext (nextOf n d a k)) (domain-call r c h)
-
-the-call : (r : List ℕ) → domainAt r .call ≡ callAt r
-unfolding domainAt
-the-call r = refl
-
-moved-call : (d : Domain) (m : Move) → moved d m .call ≡ m .call
-unfolding moved
-moved-call d m = refl
-
--- and after a stage
-pub next-move : (n : ℕ) (r : List ℕ) (m : Move) → leb 100 (length r) ≡ true → nextAt n (putMove r m) (m .call) (m .answer) (m .count) ≡ encodedNext (nextOf n (moved (domainAt r) m) (m .answer) (m .count))
-next-move n r m h =
-    let d = domain-move r m h in
-    let c : callAt (putMove r m) ≡ m .call = sym (the-call (putMove r m)) ∙ ap (λ (x : Domain). x .call) d ∙ moved-call (domainAt r) m in
-    ap (λ (x : Call). nextAt n (putMove r m) x (m .answer) (m .count)) (sym c) ∙ next-is n (putMove r m) (m .answer) (m .count) ∙ ap (λ (x : Domain). encodedNext (nextOf n x (m .answer) (m .count))) d
-
 -- a call's words hold no tail
 pub next-kept : (n : ℕ) (r : List ℕ) (c : Call) (a : Answer) (k : ℕ) → nextAt n (putCall r c) c a k ≡ nextAt n r c a k
 unfolding nextAt
 next-kept n r c a k = rw (value-is 8 (putCall r c) (c .queue .0), tails-kept r c, ← (value-is 8 r (c .queue .0)))
 
--- ---- the tails once one is written
+next-by : (n : ℕ) (r : List ℕ) (a : Answer) (k : ℕ) (b : Bool) → isFree (callAt r .owner) ≡ b → nextAt n r (callAt r) a k ≡ encodedNext (nextOf n (domainAt r) a k)
+unfolding nextAt nextOf domainAt encodedNext
+next-by n r a k true e = rw (or-owner (callAt r), e)
+next-by n r a k false e = rw (or-busy (callAt r) e, e, value-is 8 r (callAt r .queue .0))
 
-pub tail-other : (r : List ℕ) (q v p : ℕ) → domainSize ≤ length r → not (eqb q p) ≡ true → tailAt (putTail r q v) p ≡ tailAt r p
-tail-other r q v p h e = value-other 8 r q v p (omega arith) (not-true (eqb q p) e)
+-- the access that is due, or the answer
+pub next-is : (n : ℕ) (r : List ℕ) (a : Answer) (k : ℕ) → nextAt n r (callAt r) a k ≡ encodedNext (nextOf n (domainAt r) a k)
+next-is n r a k = next-by n r a k (isFree (callAt r .owner)) refl
 
-pub tail-beyond : (r : List ℕ) (p : ℕ) → leb 16 p ≡ true → tailAt r p ≡ 0
-tail-beyond r p e = value-beyond 8 r p (leb-true 16 p e)
+call-next : (n : ℕ) (r : List ℕ) (c : Call) (a : Answer) (k : ℕ) (b : Bool) → isFree (c .owner) ≡ b → nextAt n r c a k ≡ encodedNext (nextOf n (withCall (domainAt r) c) a k)
+unfolding nextAt nextOf domainAt encodedNext
+call-next n r c a k true e = rw e
+call-next n r c a k false e = rw (e, value-is 8 r (c .queue .0))
 
-pub tail-same : (r : List ℕ) (q v p : ℕ) → domainSize ≤ length r → not (eqb q p) ≡ false → leb 16 p ≡ false → tailAt (putTail r q v) p ≡ v
-tail-same r q v p h e l = value-same 8 r q v p (omega arith) (not-false (eqb q p) e) (leb-false 16 p l)
+-- the same after a call was written
+pub next-call : (n : ℕ) (r : List ℕ) (c : Call) (a : Answer) (k : ℕ) → nextAt n (putCall r c) c a k ≡ encodedNext (nextOf n (withCall (domainAt r) c) a k)
+next-call n r c a k = next-kept n r c a k ∙ call-next n r c a k (isFree (c .owner)) refl
 
--- a call's words hold none
-pub tail-kept : (r : List ℕ) (c : Call) (q v p : ℕ) → domainSize ≤ length r → tailAt (putTail (putCall r c) q v) p ≡ tailAt (putTail r q v) p
-tail-kept r c q v p h =
-    let l : 8 + 64 ≤ length r = omega arith in
-    value-set 8 (putCall r c) q v p (rw (length-call r c) l) ∙ ap (λ (t : List ℕ). getD (set t q v) p 0) (tails-kept r c) ∙ sym (value-set 8 r q v p l)
+free-next : (n : ℕ) (r s : List ℕ) (c : Call) (a : Answer) (k : ℕ) → isFree (c .owner) ≡ true → nextAt n r c a k ≡ nextAt n s c a k
+unfolding nextAt
+free-next n r s c a k e = rw e
 
--- an access looks at a tail only at R3 and R4
-due-at : (n : ℕ) (s : Stage) (c : Call) (t : ℕ) → dueAt n s c (tailFor s t) ≡ dueAt n s c t
-due-at n First c t = refl
-due-at n R2 c t = refl
-due-at n R3 c t = refl
-due-at n R4 c t = refl
-due-at n R5 c t = refl
-due-at n R6 c t = refl
+move-next : (n : ℕ) (r : List ℕ) (m : Move) (b : Bool) → isFree (m .call .owner) ≡ b → nextAt n (putMove r m) (m .call) (m .answer) (m .count) ≡ nextAt n (putTail r (m .queue .0) (m .tail)) (m .call) (m .answer) (m .count)
+move-next n r m true e = free-next n (putMove r m) (putTail r (m .queue .0) (m .tail)) (m .call) (m .answer) (m .count) e
+move-next n r m false e = rw e (next-kept n (putTail r (m .queue .0) (m .tail)) (m .call) (m .answer) (m .count))
 
-pub due-tail : (n : ℕ) (c : Call) (t : ℕ) → due n c (tailFor (c .stage) t) ≡ due n c t
-unfolding due
-due-tail n c t = due-at n (c .stage) c t
+-- and after a stage
+pub next-move : (n : ℕ) (r : List ℕ) (m : Move) → leb 100 (length r) ≡ true → nextAt n (putMove r m) (m .call) (m .answer) (m .count) ≡ encodedNext (nextOf n (moved (domainAt r) m) (m .answer) (m .count))
+next-move n r m h =
+    let s = putTail r (m .queue .0) (m .tail) in
+    move-next n r m (isFree (m .call .owner)) refl ∙ call-next n s (m .call) (m .answer) (m .count) (isFree (m .call .owner)) refl ∙ ap (λ (d : Domain). encodedNext (nextOf n (withCall d (m .call)) (m .answer) (m .count))) (domain-tail r (m .queue .0) (m .tail) h) ∙ ap (λ (d : Domain). encodedNext (nextOf n d (m .answer) (m .count))) (tailed-moved r m)

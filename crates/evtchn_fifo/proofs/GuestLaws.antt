@@ -4,28 +4,24 @@ use Prim.Native.Nat.{ℕ, _+_}
 use mathlib.Core.Path.{_≡_, refl, ap, _∙_}
 use mathlib.Core.Bool.{Bool, true, false, not}
 use mathlib.Core.List.{List}
-use lib.ListN.{length, set}
+use lib.ListN.{length}
 use lib.Dec.{leb}
-use borrow.Author.Tests.{leb-true}
+use borrow.Author.Tests.{leb-true, leb-false, le-ltb, lt-ltb}
 use native.Mathlib.Omega.{arith}
 use Rattle.calls.specs.declared.types.GuestStage.{GuestStage}
 use Rattle.calls.specs.declared.types.GuestStage.the-variants.{None, G0, G1, G2, G3, G4}
 use Rattle.calls.specs.declared.types.GuestCall.{GuestCall}
 use Rattle.calls.specs.declared.types.Guest.{Guest}
-use Rattle.calls.specs.declared.types.GuestOutcome.{GuestOutcome}
-use Rattle.calls.specs.declared.types.Access.{Access}
 use Rattle.calls.specs.declared.types.Answer.{Answer}
-use Rattle.calls.specs.declared.types.Answer.the-variants.{Done, CallUnderWay}
 use Rattle.calls.specs.declared.types.Next.the-variants as next
-use Rattle.calls.specs.Records.{guestCallAt}
-use Rattle.word.specs.Word.{portAt, queueAt}
+use Rattle.calls.specs.Records.{guestIdle}
 use Rattle.calls.specs.declared.guest.GuestMove.{GuestMove}
-use Rattle.calls.specs.Guest.{isServing, guestStagedAt, guestStaged, guestMoved, guestNext, withGuestCall, withWords, serviceStart}
-use Rattle.evtchn_fifo.specs.Numbers.{numberAt, putNumber, numbersAt, putValue, putValues}
-use Rattle.evtchn_fifo.specs.Encoded.{encodedNext, encodedAccess}
-use Rattle.evtchn_fifo.specs.GuestRecord.{guestStageCode, guestStageOf, serviceAt, guestAt, putService, putGuestMove, putGuest}
-use Rattle.evtchn_fifo.specs.Guest.{serviceNextAt, headFor}
-use Rattle.evtchn_fifo.proofs.NumberLaws.{length-put, before, after, read-back, kept-before, kept-after, numbers-kept, values-set, value-after, length-puts, sixteen-back}
+use Rattle.calls.specs.Guest.{isServing, guestMoved, guestNext, withGuestCall, withWords}
+use Rattle.evtchn_fifo.specs.Numbers.{numberAt, putNumber, numbersAt, putValues}
+use Rattle.evtchn_fifo.specs.Encoded.{wrote, encodedNext, tooShort}
+use Rattle.evtchn_fifo.specs.GuestRecord.{guestSize, guestStageCode, guestStageOf, serviceAt, orGuestIdle, guestAt, putService, putServiceEnd, putReady, putGuestMove, putGuest}
+use Rattle.evtchn_fifo.specs.Guest.{serviceNextAt, servedBytes, serviceReplyBytes}
+use Rattle.evtchn_fifo.proofs.NumberLaws.{length-put, length-value, before, after, read-back, kept-before, kept-after, numbers-kept, values-set, value-after, length-puts, sixteen-back}
 
 guest-stage-back : (s : GuestStage) → guestStageOf (guestStageCode s) ≡ s
 unfolding guestStageOf
@@ -42,10 +38,6 @@ service-back : (r : List ℕ) (c : GuestCall) → leb 88 (length r) ≡ true →
 unfolding serviceAt putService
 service-back r c h = simp (read-back 88, kept-before, length-put, h, guest-stage-back)
 
-length-service : (r : List ℕ) (c : GuestCall) → length (putService r c) ≡ length r
-unfolding putService
-length-service r c = simp length-put
-
 number-kept : (r : List ℕ) (c : GuestCall) (at : ℕ) → leb (at + 4) 72 ≡ true → numberAt 3 (putService r c) at ≡ numberAt 3 r at
 unfolding putService
 number-kept r c at h =
@@ -60,7 +52,7 @@ unfolding putService
 heads-kept r c = simp numbers-kept
 
 -- the record with a service under way
-pub guest-call : (r : List ℕ) (c : GuestCall) → leb 88 (length r) ≡ true → guestAt (putService r c) ≡ withGuestCall (guestAt r) c
+pub guest-call : (r : List ℕ) (c : GuestCall) → leb 88 (length r) ≡ true → guestAt (putService r c) ≡ withGuestCall (guestAt r) (orGuestIdle c)
 unfolding guestAt
 guest-call r c h = rw (heads-kept r c, number-kept r c 64 refl, number-kept r c 68 refl, service-back r c h)
 
@@ -76,39 +68,51 @@ pub guest-words : (r : List ℕ) (v : ℕ) → leb 88 (length r) ≡ true → gu
 unfolding guestAt
 guest-words r v h = rw (numbers-kept r 68 v 0 refl, kept-before r 68 v 64 refl, read-back 88 r 68 v h refl, service-kept r 68 v refl)
 
-service-apart : (r : List ℕ) (q v : ℕ) → serviceAt (putValue 0 r q v) ≡ serviceAt r
-unfolding serviceAt
-service-apart r q v = simp value-after
+-- ---- the service ended
 
-abbrev moving : List ℕ → GuestMove → Guest
-moving w m = record { heads = set (numbersAt 3 w 0 16) (m .queue .0) (m .head); ready = numberAt 3 w 64; words = numberAt 3 w 68; call = serviceAt w }
+or-free : (c : GuestCall) → isServing (c .stage) ≡ false → orGuestIdle c ≡ guestIdle
+unfolding orGuestIdle
+or-free c e = rw e
 
-guest-head : (w : List ℕ) (m : GuestMove) → leb 88 (length w) ≡ true → guestAt (putValue 0 w (m .queue .0) (m .head)) ≡ moving w m
+pub or-serving : (c : GuestCall) → isServing (c .stage) ≡ true → orGuestIdle c ≡ c
+unfolding orGuestIdle
+or-serving c e = rw e
+
+ended-free : (r : List ℕ) → leb 88 (length r) ≡ true → isServing (serviceAt (putServiceEnd r) .stage) ≡ false
+unfolding serviceAt guestStageOf isServing
+ended-free r h = rw (read-back 88 r 72 0 h refl)
+
+guest-end : (r : List ℕ) → leb 88 (length r) ≡ true → guestAt (putServiceEnd r) ≡ withGuestCall (guestAt r) guestIdle
 unfolding guestAt
-guest-head w m h =
-    let l = leb-true 88 (length w) h in
-    rw (values-set 0 w (m .queue .0) (m .head) (omega arith), value-after 0 w (m .queue .0) (m .head) 64 refl, value-after 0 w (m .queue .0) (m .head) 68 refl, service-apart w (m .queue .0) (m .head))
+guest-end r h = rw (numbers-kept r 72 0 0 refl, kept-before r 72 0 64 refl, kept-before r 72 0 68 refl, or-free (serviceAt (putServiceEnd r)) (ended-free r h))
 
-moving-is : (r : List ℕ) (m : GuestMove) → leb 88 (length r) ≡ true → moving (putNumber 3 (putService r (m .call)) 64 (m .ready)) m ≡ guestMoved (guestAt r) m
+-- ---- the record after a stage
+
+guest-ready : (r : List ℕ) (m : GuestMove) → leb 88 (length r) ≡ true → withGuestCall (guestAt (putReady r m)) (m .call) ≡ guestMoved (guestAt r) m
 unfolding guestMoved guestAt
-moving-is r m h =
-    let w = putService r (m .call) in
-    rw (numbers-kept w 64 (m .ready) 0 refl, heads-kept r (m .call), read-back 88 w 64 (m .ready) (rw (length-service r (m .call)) h) refl, kept-after w 64 (m .ready) 68 refl, number-kept r (m .call) 68 refl, service-kept w 64 (m .ready) refl, service-back r (m .call) h)
+guest-ready r m h =
+    let w = putNumber 3 r 64 (m .ready) in
+    let k : leb 88 (length w) ≡ true = rw (length-put 3 r 64 (m .ready)) h in
+    let l = leb-true 88 (length w) k in
+    rw (values-set 0 w (m .queue .0) (m .head) (omega arith), numbers-kept r 64 (m .ready) 0 refl, value-after 0 w (m .queue .0) (m .head) 64 refl, read-back 88 r 64 (m .ready) h refl, value-after 0 w (m .queue .0) (m .head) 68 refl, kept-after r 64 (m .ready) 68 refl)
 
-length-ready : (r : List ℕ) (m : GuestMove) → length (putNumber 3 (putService r (m .call)) 64 (m .ready)) ≡ length r
-length-ready r m = length-put 3 (putService r (m .call)) 64 (m .ready) ∙ length-service r (m .call)
+length-ready : (r : List ℕ) (m : GuestMove) → length (putReady r m) ≡ length r
+length-ready r m = length-value 0 (putNumber 3 r 64 (m .ready)) (m .queue .0) (m .head) ∙ length-put 3 r 64 (m .ready)
 
--- the record after a stage
-pub guest-move : (r : List ℕ) (m : GuestMove) → leb 88 (length r) ≡ true → guestAt (putGuestMove r m) ≡ guestMoved (guestAt r) m
-guest-move r m h = guest-head (putNumber 3 (putService r (m .call)) 64 (m .ready)) m (rw (length-ready r m) h) ∙ moving-is r m h
+move-by : (r : List ℕ) (m : GuestMove) (b : Bool) → isServing (m .call .stage) ≡ b → leb 88 (length r) ≡ true → guestAt (putGuestMove r m) ≡ withGuestCall (guestAt (putReady r m)) (orGuestIdle (m .call))
+move-by r m true e h = rw e (guest-call (putReady r m) (m .call) (rw (length-ready r m) h))
+move-by r m false e h = rw (e, or-free (m .call) e) (guest-end (putReady r m) (rw (length-ready r m) h))
+
+pub guest-move : (r : List ℕ) (m : GuestMove) → leb 88 (length r) ≡ true → orGuestIdle (m .call) ≡ m .call → guestAt (putGuestMove r m) ≡ guestMoved (guestAt r) m
+guest-move r m h i = move-by r m (isServing (m .call .stage)) refl h ∙ ap (λ (c : GuestCall). withGuestCall (guestAt (putReady r m)) c) i ∙ guest-ready r m h
 
 -- ---- a record written whole
 
-with-parts : (w : List ℕ) (g : Guest) → numbersAt 3 w 0 16 ≡ g .heads → numberAt 3 w 64 ≡ g .ready → numberAt 3 w 68 ≡ g .words → withGuestCall (guestAt w) (g .call) ≡ g
+with-parts : (w : List ℕ) (g : Guest) → numbersAt 3 w 0 16 ≡ g .heads → numberAt 3 w 64 ≡ g .ready → numberAt 3 w 68 ≡ g .words → withGuestCall (guestAt w) (orGuestIdle (g .call)) ≡ withGuestCall g (orGuestIdle (g .call))
 unfolding guestAt
 with-parts w g a b c = rw (a, b, c)
 
-pub guest-back : (r : List ℕ) (g : Guest) → leb 88 (length r) ≡ true → length (g .heads) ≡ 16 → guestAt (putGuest r g) ≡ g
+pub guest-back : (r : List ℕ) (g : Guest) → leb 88 (length r) ≡ true → length (g .heads) ≡ 16 → guestAt (putGuest r g) ≡ withGuestCall g (orGuestIdle (g .call))
 unfolding putGuest
 guest-back r g h n =
     let s = putValues 0 r (g .heads) in
@@ -122,25 +126,25 @@ guest-back r g h n =
     let c : numberAt 3 w 68 ≡ g .words = read-back 88 u 68 (g .words) (rw lu h) refl in
     guest-call w (g .call) (rw lw h) ∙ with-parts w g a b c
 
--- ---- a reply looks at a head only at G0
-
-head-at : (n : ℕ) (s : GuestStage) (c : GuestCall) (ready words head seen : ℕ) → guestStagedAt n s c ready words (headFor s head) seen ≡ guestStagedAt n s c ready words head seen
-head-at n None c ready words head seen = refl
-head-at n G0 c ready words head seen = refl
-head-at n G1 c ready words head seen = refl
-head-at n G2 c ready words head seen = refl
-head-at n G3 c ready words head seen = refl
-head-at n G4 c ready words head seen = refl
-
-pub head-only-at-G0 : (n : ℕ) (c : GuestCall) (ready words head seen : ℕ) → guestStaged n c ready words (headFor (c .stage) head) seen ≡ guestStaged n c ready words head seen
-unfolding guestStaged
-head-only-at-G0 n c ready words head seen = head-at n (c .stage) c ready words head seen
-
 -- ---- the access that is due, or the answer
 
-pub the-service : (r : List ℕ) → guestAt r .call ≡ serviceAt r
+or-stage : (c : GuestCall) (s : GuestStage) → c .stage ≡ s → orGuestIdle c .stage ≡ s
+unfolding orGuestIdle isServing
+or-stage c None e = rw e
+or-stage c G0 e = rw e
+or-stage c G1 e = rw e
+or-stage c G2 e = rw e
+or-stage c G3 e = rw e
+or-stage c G4 e = rw e
+
+pub the-stage : (r : List ℕ) → guestAt r .call .stage ≡ serviceAt r .stage
 unfolding guestAt
-the-service r = refl
+the-stage r = or-stage (serviceAt r) (serviceAt r .stage) refl
+
+-- a service under way is the one that the bytes are
+pub the-service : (r : List ℕ) → isServing (serviceAt r .stage) ≡ true → guestAt r .call ≡ serviceAt r
+unfolding guestAt
+the-service r e = or-serving (serviceAt r) e
 
 next-by : (n : ℕ) (g : Guest) (a : Answer) (k : ℕ) (b : Bool) → not (isServing (g .call .stage)) ≡ b → serviceNextAt n (g .call) a k ≡ encodedNext (guestNext n g a k)
 unfolding serviceNextAt guestNext encodedNext
@@ -150,17 +154,12 @@ next-by n g a k false e = rw e
 pub service-next : (n : ℕ) (g : Guest) (a : Answer) (k : ℕ) → serviceNextAt n (g .call) a k ≡ encodedNext (guestNext n g a k)
 service-next n g a k = next-by n g a k (not (isServing (g .call .stage))) refl
 
--- a service that starts names the access that its call waits for
-begun-by : (n : ℕ) (g : Guest) (x : Access) (b : Bool) → isServing (g .call .stage) ≡ b → serviceStart n g .next ≡ next.Access x → serviceNextAt n (serviceStart n g .guest .call) Done 0 ≡ encodedAccess x
-unfolding serviceStart encodedNext
-begun-by n g x true e h =
-    let z : next.Answer CallUnderWay 0 ≡ next.Access x = rw e at h in
-    let f : _≡_ {A = ℕ} 0 1 = cc in
-    absurd (omega arith)
-begun-by n g x false e h =
-    let d = withGuestCall g (guestCallAt G0 (portAt 0) (queueAt 0) 1) in
-    let z : guestNext n d Done 0 ≡ next.Access x = rw e at h in
-    rw e (service-next n d Done 0 ∙ ap encodedNext z)
+-- ---- the reply, by the length of the record
 
-pub service-begun : (n : ℕ) (g : Guest) (o : GuestOutcome) (x : Access) → o ≡ serviceStart n g → o .next ≡ next.Access x → serviceNextAt n (o .guest .call) Done 0 ≡ encodedAccess x
-service-begun n g o x e h = rw e (begun-by n g x (isServing (g .call .stage)) refl (rw e at h))
+pub reply-long : (n : ℕ) (r : List ℕ) (seen : ℕ) → leb guestSize (length r) ≡ true → serviceReplyBytes n r seen ≡ servedBytes n r seen
+unfolding serviceReplyBytes
+reply-long n r seen h = rw (le-ltb (length r) guestSize (leb-true guestSize (length r) h))
+
+pub reply-short : (n : ℕ) (r : List ℕ) (seen : ℕ) → leb guestSize (length r) ≡ false → serviceReplyBytes n r seen ≡ wrote tooShort r
+unfolding serviceReplyBytes
+reply-short n r seen h = rw (lt-ltb (length r) guestSize (leb-false guestSize (length r) h))

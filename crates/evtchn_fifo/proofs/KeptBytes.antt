@@ -38,14 +38,13 @@ use Rattle.calls.specs.Answers.{codeOf}
 use Rattle.calls.specs.Records.{isFree, guestCallAt, guestIdle}
 use Rattle.calls.specs.Hypervisor.{acceptInit, acceptExpand, due, staged, stagedAt, replyFirst, replyFirstOf, replyR1, replyU1, replyBind, replyClose, replyR2, triesCas, replyR4, replyR5, replyR6}
 use Rattle.calls.specs.Guest.{isServing, guestDue, serviceQueue, serviceStart, guestNext, guestStaged, guestStagedAt, replyG0, takesIndex, replyG2, replyG3, replyG4}
-use Rattle.evtchn_fifo.specs.declared.encoded.EncodedNext.{EncodedNext}
 use Rattle.evtchn_fifo.specs.Numbers.{narrow}
-use Rattle.evtchn_fifo.specs.Encoded.{Wrote, wrote, Carried, carried, encodedAnswer, encodedAccess, encodedPlace, tooShort}
+use Rattle.evtchn_fifo.specs.Encoded.{EncodedNext, Wrote, wrote, Carried, carried, encodedAnswer, encodedAccess, encodedPlace, tooShort}
 use Rattle.evtchn_fifo.specs.Ledger.{entryIn}
 use Rattle.evtchn_fifo.specs.DomainRecord.{domainSize, callAt, ownerAt, givenAt, pagesAt, tailAt, viewAt, putCall, putMove}
 use Rattle.evtchn_fifo.specs.GuestRecord.{guestSize, serviceAt, withoutHeads, readyAt, wordsAt, headAt}
 use Rattle.evtchn_fifo.specs.Hypervisor.{Starts, startsOf, onPort, startBytes, initBytes, initBytesOf, expandBytes, expandBytesOf, nextAt, replyBytes, replyFoundBytes, moveAt, moveBytes}
-use Rattle.evtchn_fifo.specs.Guest.{serviceNextAt, headFor, beganOf, serviceBytes, serviceReplyBytes, guestMoveAt, guestMoveBytes}
+use Rattle.evtchn_fifo.specs.Guest.{serviceNextAt, beganOf, serviceBytes, serviceReplyBytes, guestMoveAt, guestMoveBytes}
 use Rattle.evtchn_fifo.specs.Claims.{Refusals}
 
 -- an access has a code of 256 or more
@@ -215,7 +214,7 @@ unfolding guestMoveBytes
 reply-of n r seen true e h = refl
 reply-of n r seen false e h =
     let m = guestMoveAt n r seen in
-    absurd (omega (arith, far-code n m (far-staged n (serviceAt r) (readyAt r) (wordsAt r) (headFor (serviceAt r .stage) (headAt r (serviceQueue (readyAt r) seen .0))) seen e)))
+    absurd (omega (arith, far-code n m (far-staged n (serviceAt r) (readyAt r) (wordsAt r) (headAt r (serviceQueue (readyAt r) seen .0)) seen e)))
 
 service-reply-by : (n : ℕ) (r : List ℕ) (seen : ℕ) (b : Bool) → ltb (length r) guestSize ≡ b → serviceReplyBytes n r seen .next .code < 18 → serviceReplyBytes n r seen ≡ wrote (serviceReplyBytes n r seen .next) r
 unfolding serviceReplyBytes

@@ -3,7 +3,8 @@ pub mod WriteLaws
 pub mod LedgerLaws
 pub mod DomainLaws
 pub mod GuestLaws
-pub mod IdleLaws
+pub mod UnderWayLaws
+pub mod ReplyLaws
 pub mod KeptBytes
 pub mod Narrow
 pub mod BeyondBytes

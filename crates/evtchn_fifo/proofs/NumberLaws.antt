@@ -6,9 +6,9 @@ use mathlib.Core.Bool.{Bool, true, false}
 use mathlib.Core.List.{List, [], _∷_}
 use mathlib.Core.Logic.{_⊎_, inl, inr, ⊎-elim}
 use lib.ListN.{length, getD, set, length-set, List·getD-eq-default}
-use lib.Seq.{getD-set-same, getD-set-other, set-out}
+use lib.Seq.{getD-set-same, getD-set-other, set-out, set-getD}
 use lib.Dec.{leb, ltb, eqb}
-use borrow.Author.Tests.{leb-true, ltb-true, ltb-false, le-ltb, eqb-true, eqb-false}
+use borrow.Author.Tests.{leb-true, ltb-true, ltb-false, eqb-false}
 use native.Mathlib.Omega.{arith}
 use native.Mathlib.Nat.{not-suc-le-zero}
 use Rattle.evtchn_fifo.specs.Numbers.{numberAt, putNumber, numbersAt, putNumbers, valueAt, putValue}
@@ -49,6 +49,16 @@ pub after : (j : ℕ) (k : ℕ) (s : List ℕ) (i v at : ℕ) → i + suc k ≤ 
 unfolding numberAt
 after zero k s i v at h = byte-above k s i v at h
 after (suc j) k s i v at h = rw (byte-above k s i v at h, after j k s i v (at + 1) (omega arith))
+
+-- what stands there, written again
+pub put-same : (k : ℕ) (s : List ℕ) (i : ℕ) → ((j : ℕ) → getD s j 0 < 256) → putNumber k s i (numberAt k s i) ≡ s
+unfolding putNumber numberAt
+put-same zero s i h = set-getD s i 0
+put-same (suc k) s i h =
+    let b = h i in
+    let low : (getD s i 0 + 256 * numberAt k s (i + 1)) % 256 ≡ getD s i 0 = omega arith in
+    let high : (getD s i 0 + 256 * numberAt k s (i + 1)) / 256 ≡ numberAt k s (i + 1) = omega arith in
+    rw (low, high, set-getD s i 0) (put-same k s (i + 1) h)
 
 -- ---- numbers one after another
 
@@ -119,6 +129,14 @@ values-by base s q v false e h = rw (e, set-out (numbersAt 3 s base 16) q v (rw 
 pub values-set : (base : ℕ) (s : List ℕ) (q v : ℕ) → base + 64 ≤ length s → numbersAt 3 (putValue base s q v) base 16 ≡ set (numbersAt 3 s base 16) q v
 values-set base s q v h = values-by base s q v (ltb q 16) refl h
 
+length-by : (base : ℕ) (s : List ℕ) (q v : ℕ) (b : Bool) → ltb q 16 ≡ b → length (putValue base s q v) ≡ length s
+unfolding putValue
+length-by base s q v true e = rw (e, length-put 3 s (base + q * 4) v)
+length-by base s q v false e = rw e
+
+pub length-value : (base : ℕ) (s : List ℕ) (q v : ℕ) → length (putValue base s q v) ≡ length s
+length-value base s q v = length-by base s q v (ltb q 16) refl
+
 -- the sixteen, after one of them was written
 pub value-set : (base : ℕ) (s : List ℕ) (q v p : ℕ) → base + 64 ≤ length s → valueAt base (putValue base s q v) p ≡ getD (set (numbersAt 3 s base 16) q v) p 0
 value-set base s q v p h = value-is base (putValue base s q v) p ∙ ap (λ (l : List ℕ). getD l p 0) (values-set base s q v h)
@@ -126,14 +144,6 @@ value-set base s q v p h = value-is base (putValue base s q v) p ∙ ap (λ (l :
 pub value-other : (base : ℕ) (s : List ℕ) (q v p : ℕ) → base + 64 ≤ length s → eqb q p ≡ false → valueAt base (putValue base s q v) p ≡ valueAt base s p
 value-other base s q v p h e =
     value-set base s q v p h ∙ getD-set-other (numbersAt 3 s base 16) q p v 0 (λ x. eqb-false q p e (sym x)) ∙ sym (value-is base s p)
-
-pub value-same : (base : ℕ) (s : List ℕ) (q v p : ℕ) → base + 64 ≤ length s → eqb q p ≡ true → p < 16 → valueAt base (putValue base s q v) p ≡ v
-value-same base s q v p h e l =
-    rw (eqb-true q p e) (value-set base s p v p h ∙ getD-set-same (numbersAt 3 s base 16) p v 0 (rw (numbers-length 16 3 s base) l))
-
-pub value-beyond : (base : ℕ) (s : List ℕ) (p : ℕ) → 16 ≤ p → valueAt base s p ≡ 0
-unfolding valueAt
-value-beyond base s p l = rw (le-ltb p 16 l)
 
 -- what stands elsewhere
 apart-by : (base : ℕ) (s : List ℕ) (q v at : ℕ) (b : Bool) → ltb q 16 ≡ b → (at + 4 ≤ base) ⊎ (base + 64 ≤ at) → numberAt 3 (putValue base s q v) at ≡ numberAt 3 s at

@@ -11,10 +11,9 @@ use Rattle.calls.specs.declared.types.Call.{Call}
 use Rattle.calls.specs.declared.types.Domain.{Domain}
 use Rattle.calls.specs.declared.types.GuestCall.{GuestCall}
 use Rattle.calls.specs.declared.types.Guest.{Guest}
-use Rattle.calls.specs.declared.guest.GuestMove.{GuestMove}
-use Rattle.evtchn_fifo.specs.Numbers.{putNumber, putNumbers, putValue, putFour, putValues}
-use Rattle.evtchn_fifo.specs.DomainRecord.{ownerCode, stageCode, givenCode, putCall, putDomain}
-use Rattle.evtchn_fifo.specs.GuestRecord.{guestStageCode, putService, putGuestMove, putGuest}
+use Rattle.evtchn_fifo.specs.Numbers.{putNumber, putNumbers, putFour, putValues}
+use Rattle.evtchn_fifo.specs.DomainRecord.{ownerCode, stageCode, givenCode, putNext, putCall, putDomain}
+use Rattle.evtchn_fifo.specs.GuestRecord.{guestStageCode, putService, putGuest}
 
 pub four-numbers : (s : List ℕ) (i a b c d : ℕ) {s1 s2 s3 s4 : List ℕ} →
     s1 ≡ putNumber 3 s i a → s2 ≡ putNumber 3 s1 (i + 4) b → s3 ≡ putNumber 3 s2 (i + 8) c → s4 ≡ putNumber 3 s3 (i + 12) d →
@@ -62,10 +61,16 @@ pub sixteen-numbers : (base : ℕ) (s l : List ℕ) {s1 s2 s3 s4 : List ℕ} →
     s4 ≡ putValues base s l
 sixteen-numbers base s l n e1 e2 e3 e4 = rw (e4, e3, e2, e1, in-fours base s l, spelled l n)
 
+pub next-numbers : (s : List ℕ) (c : Call) {k : ℕ} {s1 s2 s3 s4 s5 : List ℕ} → k ≡ stageCode (c .stage) →
+    s1 ≡ putNumber 3 s 76 k → s2 ≡ putNumber 3 s1 84 (c .queue .0) → s3 ≡ putNumber 3 s2 88 (c .word) → s4 ≡ putNumber 3 s3 92 (c .tries) → s5 ≡ putNumber 3 s4 96 (c .count) →
+    s5 ≡ putNext s c
+unfolding putNext
+next-numbers s c a e1 e2 e3 e4 e5 = cc
+
 pub call-numbers : (s : List ℕ) (c : Call) {o k : ℕ} {s1 s2 s3 s4 s5 s6 s7 : List ℕ} → o ≡ ownerCode (c .owner) → k ≡ stageCode (c .stage) →
-    s1 ≡ putNumber 3 s 72 o → s2 ≡ putNumber 3 s1 76 k → s3 ≡ putNumber 3 s2 80 (c .port .0) → s4 ≡ putNumber 3 s3 84 (c .queue .0) → s5 ≡ putNumber 3 s4 88 (c .word) → s6 ≡ putNumber 3 s5 92 (c .tries) → s7 ≡ putNumber 3 s6 96 (c .count) →
+    s1 ≡ putNumber 3 s 72 o → s2 ≡ putNumber 3 s1 80 (c .port .0) → s3 ≡ putNumber 3 s2 76 k → s4 ≡ putNumber 3 s3 84 (c .queue .0) → s5 ≡ putNumber 3 s4 88 (c .word) → s6 ≡ putNumber 3 s5 92 (c .tries) → s7 ≡ putNumber 3 s6 96 (c .count) →
     s7 ≡ putCall s c
-unfolding putCall
+unfolding putCall putNext
 call-numbers s c a b e1 e2 e3 e4 e5 e6 e7 = cc
 
 pub domain-numbers : (s : List ℕ) (d : Domain) {g : ℕ} {s1 s2 s3 s4 : List ℕ} → g ≡ givenCode (d .given) →
@@ -79,11 +84,6 @@ pub service-numbers : (s : List ℕ) (c : GuestCall) {k : ℕ} {s1 s2 s3 s4 : Li
     s4 ≡ putService s c
 unfolding putService
 service-numbers s c a e1 e2 e3 e4 = cc
-
-pub guest-move-numbers : (s : List ℕ) (m : GuestMove) {s1 s2 s3 : List ℕ} →
-    s1 ≡ putService s (m .call) → s2 ≡ putNumber 3 s1 64 (m .ready) → s3 ≡ putValue 0 s2 (m .queue .0) (m .head) →
-    s3 ≡ putGuestMove s m
-guest-move-numbers s m e1 e2 e3 = cc
 
 pub guest-numbers : (s : List ℕ) (g : Guest) {s1 s2 s3 s4 : List ℕ} →
     s1 ≡ putValues 0 s (g .heads) → s2 ≡ putNumber 3 s1 64 (g .ready) → s3 ≡ putNumber 3 s2 68 (g .words) → s4 ≡ putService s3 (g .call) →

@@ -16,17 +16,15 @@ use Rattle.calls.specs.declared.types.Answer.the-variants.{Done}
 use Rattle.calls.specs.declared.types.Outcome.{Outcome}
 use Rattle.calls.specs.declared.types.Guest.{Guest}
 use Rattle.calls.specs.declared.types.GuestOutcome.{GuestOutcome}
-use Rattle.calls.specs.Records.{isPort, freshDomain, freshGuest}
+use Rattle.calls.specs.Records.{isPort, withCall, freshDomain, freshGuest}
 use Rattle.calls.specs.Hypervisor.{Turn, isOffset, initControl, expandArray, bindStart, closeStart, setPriority, raiseStart, unmaskStart, replyOf, dueOf}
-use Rattle.calls.specs.Guest.{serviceStart, serviceReply, guestDueOf, guestAnswered, withWords, maskOf, tellOf}
-use Rattle.evtchn_fifo.specs.declared.encoded.EncodedNext.{EncodedNext}
-use Rattle.evtchn_fifo.specs.declared.hypervisor.PortCall.{PortCall}
+use Rattle.calls.specs.Guest.{serviceStart, serviceReply, guestDueOf, guestAnswered, withGuestCall, withWords, maskOf, tellOf}
 use Rattle.evtchn_fifo.specs.Numbers.{narrow}
-use Rattle.evtchn_fifo.specs.Encoded.{Wrote, wrote, Carried, carried, encodedNext, tooShort}
+use Rattle.evtchn_fifo.specs.Encoded.{EncodedNext, Wrote, wrote, Carried, carried, encodedNext, tooShort}
 use Rattle.evtchn_fifo.specs.Ledger.{entries, ledgerAt, freshLedgerBytes}
-use Rattle.evtchn_fifo.specs.DomainRecord.{domainSize, domainAt, putDomain}
-use Rattle.evtchn_fifo.specs.GuestRecord.{guestSize, guestAt, putGuest}
-use Rattle.evtchn_fifo.specs.Hypervisor.{startsOf, onPort, initBytes, expandBytes, bindBytes, closeBytes, setPriorityBytes, raiseBytes, unmaskBytes, replyBytes, dueBytes, freshDomainBytes}
+use Rattle.evtchn_fifo.specs.DomainRecord.{domainSize, domainAt, orIdle, putDomain}
+use Rattle.evtchn_fifo.specs.GuestRecord.{guestSize, guestAt, orGuestIdle, putGuest}
+use Rattle.evtchn_fifo.specs.Hypervisor.{PortCall, startsOf, onPort, initBytes, expandBytes, bindBytes, closeBytes, setPriorityBytes, raiseBytes, unmaskBytes, replyBytes, dueBytes, freshDomainBytes}
 use Rattle.evtchn_fifo.specs.Guest.{serviceBytes, serviceReplyBytes, serviceDueBytes, tellBytes, freshGuestBytes}
 
 -- ---- a call on a domain's record and its ledger
@@ -83,8 +81,8 @@ pub record IsGuestCall (f : List ℕ → Wrote) (g : Guest → GuestOutcome) : T
 -- ---- the claims
 
 pub record DomainCalls (n : ℕ) : Type 0 where
-  -- a record written whole is read back
-  pub read-back : (r : List ℕ) (d : Domain) → domainSize ≤ length r → length (d .tails) ≡ 16 → domainAt (putDomain r d) ≡ d
+  -- a record written whole is read back; without an owner its call is the idle one
+  pub read-back : (r : List ℕ) (d : Domain) → domainSize ≤ length r → length (d .tails) ≡ 16 → domainAt (putDomain r d) ≡ withCall d (orIdle (d .call))
   pub init-control : (vcpu frame frames offset : ℕ) → IsCallAlone (λ r. initBytes n r vcpu frame frames offset) (λ d. initControl n d (narrow vcpu) frame frames (narrow offset))
   pub expand-array : (frame frames : ℕ) → IsCallAlone (λ r. expandBytes n r frame frames) (λ d. expandArray n d frame frames)
   pub bind : (p : ℕ) → IsCall (λ r t. bindBytes n r t p) (λ d l. bindStart n d l (portAt (narrow p)))
@@ -100,7 +98,7 @@ pub record DomainCalls (n : ℕ) : Type 0 where
   pub fresh-ledger : (t : List ℕ) → ledgerAt (freshLedgerBytes t .record-bytes) ≡ replicate (entries t) freshEntry
 
 pub record GuestCalls (n : ℕ) : Type 0 where
-  pub read-back : (r : List ℕ) (g : Guest) → guestSize ≤ length r → length (g .heads) ≡ 16 → guestAt (putGuest r g) ≡ g
+  pub read-back : (r : List ℕ) (g : Guest) → guestSize ≤ length r → length (g .heads) ≡ 16 → guestAt (putGuest r g) ≡ withGuestCall g (orGuestIdle (g .call))
   pub service : IsGuestCall (λ r. serviceBytes n r) (λ g. serviceStart n g)
   pub service-reply : (seen : ℕ) → IsGuestCall (λ r. serviceReplyBytes n r seen) (λ g. serviceReply n g seen)
   pub service-due : (r : List ℕ) → guestSize ≤ length r → serviceDueBytes n r ≡ encodedNext (guestDueOf n (guestAt r))

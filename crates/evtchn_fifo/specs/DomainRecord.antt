@@ -8,6 +8,7 @@ use mathlib.Core.List.{List}
 use lib.Dec.{eqb, ltb}
 use Rattle.word.specs.Word.{portAt, queueAt}
 use Rattle.word.specs.Entry.{priority, lastQueue}
+use Rattle.calls.specs.Records.{isFree, idleCall}
 use Rattle.calls.specs.declared.types.Owner.{Owner}
 use Rattle.calls.specs.declared.types.Owner.the-variants as owner
 use Rattle.calls.specs.declared.types.Stage.{Stage}
@@ -83,34 +84,42 @@ callAt r = record { owner = ownerAt r; stage = stageOf (numberAt 3 r 76); port =
 unfoldable pub viewAt : List ℕ → ℕ → View
 viewAt r e = record { tail = tailAt r (priority e); former = tailAt r (lastQueue e) }
 
+-- where no call is under way, the words of one that has ended are not looked at
+unfoldable pub orIdle : Call → Call
+orIdle c = cond (isFree (c .owner)) idleCall c
+
 -- the record that the bytes are
 unfoldable pub domainAt : List ℕ → Domain
-domainAt r = record { given = givenAt r; pages = pagesAt r; tails = numbersAt 3 r 8 16; call = callAt r }
+domainAt r = record { given = givenAt r; pages = pagesAt r; tails = numbersAt 3 r 8 16; call = orIdle (callAt r) }
 
 -- ---- writing
 
-unfoldable pub putCall : List ℕ → Call → List ℕ
-putCall r c =
+-- the stage of a call, written; its owner and its port stay
+unfoldable pub putNext : List ℕ → Call → List ℕ
+putNext r c =
     putNumber 3
     (putNumber 3
     (putNumber 3
     (putNumber 3
-    (putNumber 3
-    (putNumber 3
-    (putNumber 3 r 72 (ownerCode (c .owner)))
-    76 (stageCode (c .stage)))
-    80 (c .port .0))
+    (putNumber 3 r 76 (stageCode (c .stage)))
     84 (c .queue .0))
     88 (c .word))
     92 (c .tries))
     96 (c .count)
 
+unfoldable pub putCall : List ℕ → Call → List ℕ
+putCall r c = putNext (putNumber 3 (putNumber 3 r 72 (ownerCode (c .owner))) 80 (c .port .0)) c
+
 abbrev pub putTail : List ℕ → ℕ → ℕ → List ℕ
 putTail r q v = putValue 8 r q v
 
+-- the call ends: its other words stay
+abbrev pub putEnd : List ℕ → List ℕ
+putEnd r = putNumber 3 r 72 0
+
 -- all that a reply changes
 abbrev pub putMove : List ℕ → Move → List ℕ
-putMove r m = putTail (putCall r (m .call)) (m .queue .0) (m .tail)
+putMove r m = cond (isFree (m .call .owner)) (putEnd (putTail r (m .queue .0) (m .tail))) (putCall (putTail r (m .queue .0) (m .tail)) (m .call))
 
 -- a record written whole
 unfoldable pub putDomain : List ℕ → Domain → List ℕ

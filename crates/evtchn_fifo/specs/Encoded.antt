@@ -1,6 +1,6 @@
--- What a call or a reply comes to, as C has it: four numbers of 32 bits.
+-- What a call or a reply comes to, as C has it: four numbers of 32 bits, which the compiled code returns as two of 64.
 -- Assumes nothing.
-use Prim.Native.Nat.{ℕ, _+_}
+use Prim.Native.Nat.{ℕ, _+_, _/_, _%_}
 use mathlib.Core.List.{List}
 use Rattle.calls.specs.Answers.{codeOf}
 use Rattle.calls.specs.declared.types.Place.{Place}
@@ -12,10 +12,20 @@ use Rattle.calls.specs.declared.types.Next.{Next}
 use Rattle.calls.specs.declared.types.Next.the-variants as next
 use Rattle.calls.specs.declared.types.Masking.{Masking}
 use Rattle.calls.specs.declared.types.Masking.the-variants as masking
-use Rattle.evtchn_fifo.specs.declared.encoded.EncodedNext.{EncodedNext}
+use Rattle.evtchn_fifo.specs.declared.encoded.PackedNext.{PackedNext}
+
+pub record EncodedNext : Type 0 where
+  pub code : ℕ
+  pub index : ℕ
+  pub value : ℕ
+  pub old : ℕ
 
 abbrev pub encoded : ℕ → ℕ → ℕ → ℕ → EncodedNext
 encoded code index value old = record { code = code; index = index; value = value; old = old }
+
+-- what C reads of two registers: the first of each pair is the lower half
+unfoldable pub unpacked : PackedNext → EncodedNext
+unpacked x = encoded (x .first % 0x100000000) (x .first / 0x100000000) (x .second % 0x100000000) (x .second / 0x100000000)
 
 -- an answer: its number, the value that it carries, its count of accesses
 unfoldable pub encodedAnswer : Answer → ℕ → EncodedNext

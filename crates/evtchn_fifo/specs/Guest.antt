@@ -11,16 +11,13 @@ use Rattle.calls.specs.declared.types.Answer.{Answer}
 use Rattle.calls.specs.declared.types.Answer.the-variants.{NoCall}
 use Rattle.calls.specs.declared.types.Next.{Next}
 use Rattle.calls.specs.declared.types.Next.the-variants as next
-use Rattle.calls.specs.declared.types.GuestStage.{GuestStage}
-use Rattle.calls.specs.declared.types.GuestStage.the-variants.{None, G0, G1, G2, G3, G4}
 use Rattle.calls.specs.declared.types.GuestCall.{GuestCall}
 use Rattle.calls.specs.declared.types.GuestOutcome.{GuestOutcome}
 use Rattle.calls.specs.declared.guest.GuestMove.{GuestMove}
 use Rattle.calls.specs.Records.{guestIdle, freshGuest}
 use Rattle.calls.specs.Guest.{isServing, guestStaged, serviceQueue, guestDue, serviceStart, maskOf, tellOf}
-use Rattle.evtchn_fifo.specs.declared.encoded.EncodedNext.{EncodedNext}
 use Rattle.evtchn_fifo.specs.Numbers.{putNumber, narrow}
-use Rattle.evtchn_fifo.specs.Encoded.{Wrote, wrote, Freshened, freshened, encodedAnswer, encodedAccess, encodedNext, encodedMasking, tooShort}
+use Rattle.evtchn_fifo.specs.Encoded.{EncodedNext, Wrote, wrote, Freshened, freshened, encodedAnswer, encodedAccess, encodedNext, encodedMasking, tooShort}
 use Rattle.evtchn_fifo.specs.GuestRecord.{guestSize, headAt, readyAt, wordsAt, serviceAt, withoutHeads, putService, putGuestMove, putGuest}
 
 -- the access that the service c waits for, or the answer with its count where c is none
@@ -40,26 +37,20 @@ serviceBytes n r =
     cond (ltb (length r) guestSize) (wrote tooShort r)
     (beganOf r (serviceStart n (withoutHeads 0 (serviceAt r))))
 
--- its reply; only G0's looks at a head h
-abbrev pub headFor : GuestStage → ℕ → ℕ
-headFor None h = 0
-headFor G0 h = h
-headFor G1 h = 0
-headFor G2 h = 0
-headFor G3 h = 0
-headFor G4 h = 0
-
+-- its reply
 abbrev pub guestMoveAt : ℕ → List ℕ → ℕ → GuestMove
-guestMoveAt n r seen = guestStaged n (serviceAt r) (readyAt r) (wordsAt r) (headFor (serviceAt r .stage) (headAt r (serviceQueue (readyAt r) seen .0))) seen
+guestMoveAt n r seen = guestStaged n (serviceAt r) (readyAt r) (wordsAt r) (headAt r (serviceQueue (readyAt r) seen .0)) seen
 
 unfoldable pub guestMoveBytes : ℕ → List ℕ → GuestMove → Wrote
 guestMoveBytes n r m = wrote (serviceNextAt n (m .call) (m .answer) (m .count)) (putGuestMove r m)
 
+abbrev pub servedBytes : ℕ → List ℕ → ℕ → Wrote
+servedBytes n r seen =
+    cond (not (isServing (serviceAt r .stage))) (wrote (encodedAnswer NoCall 0) r)
+    (guestMoveBytes n r (guestMoveAt n r seen))
+
 unfoldable pub serviceReplyBytes : ℕ → List ℕ → ℕ → Wrote
-serviceReplyBytes n r seen =
-    cond (ltb (length r) guestSize) (wrote tooShort r)
-    (cond (not (isServing (serviceAt r .stage))) (wrote (encodedAnswer NoCall 0) r)
-    (guestMoveBytes n r (guestMoveAt n r seen)))
+serviceReplyBytes n r seen = cond (ltb (length r) guestSize) (wrote tooShort r) (servedBytes n r seen)
 
 -- the access that is due; 16 where no service is under way
 unfoldable pub serviceDueBytes : ℕ → List ℕ → EncodedNext

@@ -8,7 +8,8 @@ use mathlib.Core.List.{List}
 use lib.Dec.{eqb}
 use lib.ListN.{replicate}
 use Rattle.word.specs.Word.{portAt, queueAt}
-use Rattle.calls.specs.Records.{guestCallAt}
+use Rattle.calls.specs.Records.{guestCallAt, guestIdle}
+use Rattle.calls.specs.Guest.{isServing}
 use Rattle.calls.specs.declared.types.GuestStage.{GuestStage}
 use Rattle.calls.specs.declared.types.GuestStage.the-variants.{None, G0, G1, G2, G3, G4}
 use Rattle.calls.specs.declared.types.GuestCall.{GuestCall}
@@ -52,9 +53,13 @@ wordsAt r = numberAt 3 r 68
 unfoldable pub serviceAt : List ℕ → GuestCall
 serviceAt r = guestCallAt (guestStageOf (numberAt 3 r 72)) (portAt (numberAt 3 r 76)) (queueAt (numberAt 3 r 80)) (numberAt 3 r 84)
 
+-- where no service is under way, the words of one that has ended are not looked at
+unfoldable pub orGuestIdle : GuestCall → GuestCall
+orGuestIdle c = cond (isServing (c .stage)) c guestIdle
+
 -- the record that the bytes are
 unfoldable pub guestAt : List ℕ → Guest
-guestAt r = record { heads = numbersAt 3 r 0 16; ready = readyAt r; words = wordsAt r; call = serviceAt r }
+guestAt r = record { heads = numbersAt 3 r 0 16; ready = readyAt r; words = wordsAt r; call = orGuestIdle (serviceAt r) }
 
 -- one without heads and ready bits, which neither the start of a service nor a tell looks at
 abbrev pub withoutHeads : ℕ → GuestCall → Guest
@@ -72,9 +77,17 @@ putService r c =
     80 (c .queue .0))
     84 (c .count)
 
+-- the service ends: its other words stay
+abbrev pub putServiceEnd : List ℕ → List ℕ
+putServiceEnd r = putNumber 3 r 72 0
+
+-- local ready bits and one head
+abbrev pub putReady : List ℕ → GuestMove → List ℕ
+putReady r m = putValue 0 (putNumber 3 r 64 (m .ready)) (m .queue .0) (m .head)
+
 -- all that a service's reply changes
 abbrev pub putGuestMove : List ℕ → GuestMove → List ℕ
-putGuestMove r m = putValue 0 (putNumber 3 (putService r (m .call)) 64 (m .ready)) (m .queue .0) (m .head)
+putGuestMove r m = cond (isServing (m .call .stage)) (putService (putReady r m) (m .call)) (putServiceEnd (putReady r m))
 
 -- a record written whole
 unfoldable pub putGuest : List ℕ → Guest → List ℕ

@@ -8,13 +8,13 @@ use lib.ListN.{length}
 use lib.Dec.{ltb}
 use Rattle.word.specs.declared.Port.{Port}
 use Rattle.word.specs.Word.{portAt}
+use Rattle.word.specs.declared.Priority.{Priority}
 use Rattle.word.specs.Entry.{priorityAt}
+use Rattle.calls.specs.declared.types.Place.the-variants.{Word}
 use Rattle.calls.specs.declared.types.Answer.{Answer}
 use Rattle.calls.specs.declared.types.Answer.the-variants.{Done, LinkBits, NoEntry, NoCall}
 use Rattle.calls.specs.declared.types.Owner.{Owner}
 use Rattle.calls.specs.declared.types.Owner.the-variants as owner
-use Rattle.calls.specs.declared.types.Stage.{Stage}
-use Rattle.calls.specs.declared.types.Stage.the-variants.{First, R2, R3, R4, R5, R6}
 use Rattle.calls.specs.declared.types.Call.{Call}
 use Rattle.calls.specs.declared.records.Lookup.{Lookup}
 use Rattle.calls.specs.declared.records.Lookup.the-variants.{Found, Missing}
@@ -25,11 +25,8 @@ use Rattle.calls.specs.declared.hypervisor.start.Begin.{Begin}
 use Rattle.calls.specs.declared.hypervisor.start.Begin.the-variants as begin
 use Rattle.calls.specs.Records.{isFree, oneMore, freshDomain}
 use Rattle.calls.specs.Hypervisor.{acceptInit, acceptExpand, beginBind, beginClose, beginPriority, beginLink, staged, due}
-use Rattle.evtchn_fifo.specs.declared.encoded.EncodedNext.{EncodedNext}
-use Rattle.evtchn_fifo.specs.declared.hypervisor.PortCall.{PortCall}
-use Rattle.evtchn_fifo.specs.declared.hypervisor.PortCall.the-variants.{Bind, Close, SetPriority, Raise, Unmask}
 use Rattle.evtchn_fifo.specs.Numbers.{putNumber, narrow}
-use Rattle.evtchn_fifo.specs.Encoded.{Wrote, wrote, Carried, carried, Freshened, freshened, encodedAnswer, encodedAccess, tooShort}
+use Rattle.evtchn_fifo.specs.Encoded.{EncodedNext, Wrote, wrote, Carried, carried, Freshened, freshened, encodedAnswer, encodedAccess, tooShort}
 use Rattle.evtchn_fifo.specs.Ledger.{entryIn, putEntry}
 use Rattle.evtchn_fifo.specs.DomainRecord.{domainSize, givenAt, pagesAt, tailAt, ownerAt, callAt, viewAt, putCall, putMove, putDomain}
 
@@ -38,15 +35,6 @@ unfoldable pub nextAt : ℕ → List ℕ → Call → Answer → ℕ → Encoded
 nextAt n r c a count =
     cond (isFree (c .owner)) (encodedAnswer a count)
     (encodedAccess (due n c (tailAt r (c .queue .0))))
-
--- only the accesses of R3 and R4 are on a tail t
-abbrev pub tailFor : Stage → ℕ → ℕ
-tailFor First t = 0
-tailFor R2 t = 0
-tailFor R3 t = t
-tailFor R4 t = t
-tailFor R5 t = 0
-tailFor R6 t = 0
 
 -- ---- init_control and expand_array
 
@@ -79,6 +67,14 @@ startBytes n r t p (begin.Settled e) = carried (encodedAnswer Done 0) r (putEntr
 -- how a call starts, by the owner of the call under way, given, pages, the port and its entry
 abbrev pub Starts : Type 0
 Starts = Owner → Bool → ℕ → Port → Lookup → Begin
+
+-- a call on a port
+pub data PortCall : Type 0 where
+  Bind : PortCall
+  Close : PortCall
+  SetPriority : Priority → PortCall
+  Raise : PortCall
+  Unmask : PortCall
 
 abbrev pub startsOf : ℕ → PortCall → Starts
 startsOf n Bind o given pages p found = beginBind n o given pages p found

@@ -4,5 +4,6 @@ pub mod Ledger
 pub mod DomainRecord
 pub mod GuestRecord
 pub mod Hypervisor
+pub mod InPlace
 pub mod Guest
 pub mod Claims

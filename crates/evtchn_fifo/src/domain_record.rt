@@ -1,13 +1,13 @@
 // A domain's record in bytes: its fields read and written.
 ghost use mathlib.Core.Path.{_≡_};
+ghost use mathlib.Core.Bool.{false, not};
 ghost use Prim.Native.Nat.{_≤_};
 ghost use lib.ListN.{length};
 ghost use Rattle.calls.specs.Records.{isFree};
-ghost use Rattle.evtchn_fifo.specs.DomainRecord.{domainSize, ownerCode, ownerOf, stageCode, stageOf, givenCode, givenAt, ownerAt, callAt, tailAt, viewAt, putCall, putTail, putMove, putDomain};
+ghost use Rattle.evtchn_fifo.specs.DomainRecord.{domainSize, ownerCode, ownerOf, stageCode, stageOf, givenCode, givenAt, ownerAt, callAt, putCall, putDomain};
+ghost use Rattle.evtchn_fifo.specs.InPlace.{underWay};
 use crate::layout;
 use crate::numbers;
-use calls::hypervisor::stage::Move;
-use calls::hypervisor::stage::View;
 use calls::types::Call;
 use calls::types::Domain;
 use calls::types::Owner;
@@ -98,22 +98,22 @@ pub(crate) fn owner_at(domain: &[u8]) -> Owner
     Owner::None
 }
 
-// Whether no call is under way, told by the codes: a test on numbers is compiled to less than one on an owner.
-pub(crate) fn is_idle(domain: &[u8]) -> bool
+// Whether a call is under way, told by the codes: a test on numbers is compiled to less than one on an owner.
+pub(crate) fn is_under_way(domain: &[u8]) -> bool
     requires { ⌜ domainSize ≤ length (now domain) ⌝ }
-    ensures { λ r. ⌜ r ≡ isFree (callAt (now (domain .entry)) .owner) ⌝ }
+    ensures { λ r. ⌜ r ≡ not (isFree (callAt (now (domain .entry)) .owner)) ⌝ }
 {
     let stage = numbers::u32_at(domain, layout::STAGE);
-    let unknown = 6 <= stage;
-    if unknown {
-        return true;
+    let known = stage < 6;
+    if known {
+        let owner = numbers::u32_at(domain, layout::OWNER);
+        let some = 0 < owner;
+        if some {
+            return owner < 5;
+        }
+        return false;
     }
-    let owner = numbers::u32_at(domain, layout::OWNER);
-    let none = owner == 0;
-    if none {
-        return true;
-    }
-    5 <= owner
+    false
 }
 
 pub(crate) fn call_at(domain: &[u8]) -> Call
@@ -139,22 +139,6 @@ pub(crate) fn call_at(domain: &[u8]) -> Call
     }
 }
 
-// What R2's reply looks at.
-pub(crate) fn view_at(domain: &[u8], entry: u16) -> View
-    requires { ⌜ domainSize ≤ length (now domain) ⌝ }
-    ensures { λ r. ⌜ r ≡ viewAt (now (domain .entry)) entry ⌝ }
-{
-    let priority = word::entry::priority_of(entry);
-    let queue = word::entry::queue_of(priority);
-    let last = word::entry::last_queue(entry);
-    let tail = numbers::value_at(domain, layout::TAILS, queue);
-    let former = numbers::value_at(domain, layout::TAILS, last);
-    View {
-        tail: tail,
-        former: former,
-    }
-}
-
 pub(crate) fn put_call(domain: &mut [u8], call: Call)
     requires { ⌜ domainSize ≤ length (now domain) ⌝ }
     ensures { λ _. ⌜ now (domain .exit) ≡ putCall (now (domain .entry)) call ⌝ }
@@ -166,39 +150,27 @@ pub(crate) fn put_call(domain: &mut [u8], call: Call)
     let owner_number = owner_code(owner);
     let stage_number = stage_code(stage);
     numbers::put_u32(domain, layout::OWNER, owner_number);
-    numbers::put_u32(domain, layout::STAGE, stage_number);
     numbers::put_u32(domain, layout::PORT, port.0);
+    numbers::put_u32(domain, layout::STAGE, stage_number);
     numbers::put_u32(domain, layout::QUEUE, queue.0);
     numbers::put_u32(domain, layout::WORD, call.word);
     numbers::put_u32(domain, layout::TRIES, call.tries);
     numbers::put_u32(domain, layout::COUNT, call.count);
 }
 
-// The tail of a queue once that of the changed one is written.
-pub(crate) fn tail_after(domain: &[u8], changed: Queue, tail: u32, queue: Queue) -> u32
-    requires { ⌜ domainSize ≤ length (now domain) ⌝ }
-    ensures { λ r. ⌜ r ≡ tailAt (putTail (now (domain .entry)) (changed .0) tail) (queue .0) ⌝ }
+// The next stage of the call under way: its owner and its port stay.
+pub(crate) fn put_next(domain: &mut [u8], call: Call)
+    requires { ⌜ (domainSize ≤ length (now domain)) × (isFree (callAt (now domain) .owner) ≡ false) ⌝ }
+    ensures { λ _. ⌜ now (domain .exit) ≡ putCall (now (domain .entry)) (underWay (callAt (now (domain .entry))) call) ⌝ }
 {
-    let apart = changed.0 != queue.0;
-    if apart {
-        return numbers::value_at(domain, layout::TAILS, queue);
-    }
-    let none = 16 <= queue.0;
-    if none {
-        return 0;
-    }
-    tail
-}
-
-// All that a reply changes.
-pub(crate) fn put_move(domain: &mut [u8], step: Move)
-    requires { ⌜ domainSize ≤ length (now domain) ⌝ }
-    ensures { λ _. ⌜ now (domain .exit) ≡ putMove (now (domain .entry)) step ⌝ }
-{
-    let call = step.call;
-    let queue = step.queue;
-    put_call(domain, call);
-    numbers::put_value(domain, layout::TAILS, queue, step.tail);
+    let stage = call.stage;
+    let queue = call.queue;
+    let stage_number = stage_code(stage);
+    numbers::put_u32(domain, layout::STAGE, stage_number);
+    numbers::put_u32(domain, layout::QUEUE, queue.0);
+    numbers::put_u32(domain, layout::WORD, call.word);
+    numbers::put_u32(domain, layout::TRIES, call.tries);
+    numbers::put_u32(domain, layout::COUNT, call.count);
 }
 
 // A record written whole.

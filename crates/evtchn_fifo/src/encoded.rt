@@ -1,44 +1,48 @@
 // What a call or a reply comes to, as C has it.
 ghost use mathlib.Core.Path.{_≡_};
-ghost use Prim.Native.Nat.{_≤_};
-ghost use Rattle.evtchn_fifo.specs.Encoded.{placeCode, placeIndex, encodedPlace, encodedAccess, encodedAnswer, encodedNext, encodedMasking, tooShort};
+ghost use Prim.Native.Nat.{_≤_, _/_, _%_};
+ghost use Rattle.evtchn_fifo.specs.Encoded.{unpacked, encoded, placeCode, placeIndex, encodedPlace, encodedAccess, encodedAnswer, encodedMasking, tooShort};
 use calls::types::Access;
 use calls::types::Answer;
 use calls::types::Masking;
-use calls::types::Next;
 use calls::types::Place;
 
-// An access: kind and place (0x100 and above), port or queue, operand, a cas's old word. An answer: document 01's number, the
-// value that it carries, its count of accesses, 0. A number of 64 says that a buffer is too short.
+// C's four numbers of 32 bits, code, index, value and old, in two of 64, the first of each pair in the lower half: the calling
+// convention returns both structs in the same two registers, and this one takes fewer instructions to fill.
 #[repr(C)]
-pub struct EncodedNext {
-    pub code: u32,
-    pub index: u32,
-    pub value: u32,
-    pub old: u32,
+pub struct PackedNext {
+    pub first: u64,
+    pub second: u64,
 }
 
-pub fn too_short() -> EncodedNext
-    ensures { λ r. ⌜ r ≡ tooShort ⌝ }
+fn pair(lower: u32, upper: u32) -> u64
+    ensures { λ r. ⌜ (r % 0x100000000 ≡ lower) × (r / 0x100000000 ≡ upper) ⌝ }
 {
-    EncodedNext {
-        code: 64,
-        index: 0,
-        value: 0,
-        old: 0,
+    (lower as u64) + (upper as u64) * 0x1_0000_0000
+}
+
+fn packed(code: u32, index: u32, value: u32, old: u32) -> PackedNext
+    ensures { λ r. ⌜ unpacked r ≡ encoded code index value old ⌝ }
+{
+    let first = pair(code, index);
+    let second = pair(value, old);
+    PackedNext {
+        first: first,
+        second: second,
     }
 }
 
-pub fn encoded_answer(answer: Answer, count: u32) -> EncodedNext
-    ensures { λ r. ⌜ r ≡ encodedAnswer answer count ⌝ }
+pub fn too_short() -> PackedNext
+    ensures { λ r. ⌜ unpacked r ≡ tooShort ⌝ }
+{
+    packed(64, 0, 0, 0)
+}
+
+pub fn encoded_answer(answer: Answer, count: u32) -> PackedNext
+    ensures { λ r. ⌜ unpacked r ≡ encodedAnswer answer count ⌝ }
 {
     let code = calls::answer::code_of(answer);
-    EncodedNext {
-        code: code.number,
-        index: code.value,
-        value: count,
-        old: 0,
-    }
+    packed(code.number, code.value, count, 0)
 }
 
 pub fn place_code(place: Place) -> u32
@@ -61,22 +65,17 @@ pub fn place_index(place: Place) -> u32
     }
 }
 
-fn encoded_place(kind: u32, place: Place, value: u32, old: u32) -> EncodedNext
+fn encoded_place(kind: u32, place: Place, value: u32, old: u32) -> PackedNext
     requires { ⌜ kind ≤ 0x150 ⌝ }
-    ensures { λ r. ⌜ r ≡ encodedPlace kind place value old ⌝ }
+    ensures { λ r. ⌜ unpacked r ≡ encodedPlace kind place value old ⌝ }
 {
     let code = place_code(place);
     let index = place_index(place);
-    EncodedNext {
-        code: kind + code,
-        index: index,
-        value: value,
-        old: old,
-    }
+    packed(kind + code, index, value, old)
 }
 
-pub fn encoded_access(access: Access) -> EncodedNext
-    ensures { λ r. ⌜ r ≡ encodedAccess access ⌝ }
+pub fn encoded_access(access: Access) -> PackedNext
+    ensures { λ r. ⌜ unpacked r ≡ encodedAccess access ⌝ }
 {
     match access {
         Access::Read(place) => encoded_place(0x100, place, 0, 0),
@@ -88,18 +87,9 @@ pub fn encoded_access(access: Access) -> EncodedNext
     }
 }
 
-pub fn encoded_next(next: Next) -> EncodedNext
-    ensures { λ r. ⌜ r ≡ encodedNext next ⌝ }
-{
-    match next {
-        Next::Access(access) => encoded_access(access),
-        Next::Answer(answer, count) => encoded_answer(answer, count),
-    }
-}
-
 // A mask's access says its answer 0 and count 1.
-pub fn encoded_masking(masking: Masking) -> EncodedNext
-    ensures { λ r. ⌜ r ≡ encodedMasking masking ⌝ }
+pub fn encoded_masking(masking: Masking) -> PackedNext
+    ensures { λ r. ⌜ unpacked r ≡ encodedMasking masking ⌝ }
 {
     match masking {
         Masking::Made(access, _, _) => encoded_access(access),

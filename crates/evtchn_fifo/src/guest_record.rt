@@ -1,13 +1,10 @@
 // A guest's record in bytes: its fields read and written.
 ghost use mathlib.Core.Path.{_≡_};
 ghost use Prim.Native.Nat.{_≤_};
-ghost use mathlib.Core.Bool.{not};
 ghost use lib.ListN.{length};
-ghost use Rattle.calls.specs.Guest.{isServing};
-ghost use Rattle.evtchn_fifo.specs.GuestRecord.{guestSize, guestStageCode, guestStageOf, serviceAt, withoutHeads, putService, putGuestMove, putGuest};
+ghost use Rattle.evtchn_fifo.specs.GuestRecord.{guestSize, guestStageCode, guestStageOf, serviceAt, putService, putGuest};
 use crate::layout;
 use crate::numbers;
-use calls::guest::GuestMove;
 use calls::types::Guest;
 use calls::types::GuestCall;
 use calls::types::GuestStage;
@@ -53,31 +50,6 @@ pub(crate) fn service_at(guest: &[u8]) -> GuestCall
     calls::records::guest_call_at(stage, Port(port), Queue(queue), count)
 }
 
-// Whether no service is under way, told by the code of its stage.
-pub(crate) fn is_idle(guest: &[u8]) -> bool
-    requires { ⌜ guestSize ≤ length (now guest) ⌝ }
-    ensures { λ r. ⌜ r ≡ not (isServing (serviceAt (now (guest .entry)) .stage)) ⌝ }
-{
-    let code = numbers::u32_at(guest, layout::GUEST_STAGE);
-    let none = code == 0;
-    if none {
-        return true;
-    }
-    6 <= code
-}
-
-// A record without heads and ready bits, which neither the start of a service nor a tell looks at.
-pub fn without_heads(words: u32, call: GuestCall) -> Guest
-    ensures { λ r. ⌜ r ≡ withoutHeads words call ⌝ }
-{
-    Guest {
-        heads: [0; 16],
-        ready: 0,
-        words: words,
-        call: call,
-    }
-}
-
 pub(crate) fn put_service(guest: &mut [u8], call: GuestCall)
     requires { ⌜ guestSize ≤ length (now guest) ⌝ }
     ensures { λ _. ⌜ now (guest .exit) ≡ putService (now (guest .entry)) call ⌝ }
@@ -90,18 +62,6 @@ pub(crate) fn put_service(guest: &mut [u8], call: GuestCall)
     numbers::put_u32(guest, layout::GUEST_PORT, port.0);
     numbers::put_u32(guest, layout::GUEST_QUEUE, queue.0);
     numbers::put_u32(guest, layout::GUEST_COUNT, call.count);
-}
-
-// All that a service's reply changes.
-pub(crate) fn put_guest_move(guest: &mut [u8], step: GuestMove)
-    requires { ⌜ guestSize ≤ length (now guest) ⌝ }
-    ensures { λ _. ⌜ now (guest .exit) ≡ putGuestMove (now (guest .entry)) step ⌝ }
-{
-    let call = step.call;
-    let queue = step.queue;
-    put_service(guest, call);
-    numbers::put_u32(guest, layout::READY, step.ready);
-    numbers::put_value(guest, layout::HEADS, queue, step.head);
 }
 
 // A record written whole.

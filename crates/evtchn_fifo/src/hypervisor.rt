@@ -2,24 +2,30 @@
 ghost use mathlib.Core.Path.{_≡_};
 ghost use Prim.Native.Nat.{_≤_};
 ghost use lib.ListN.{length};
-ghost use Rattle.word.specs.Word.{linkBits, portAt};
-ghost use Rattle.evtchn_fifo.specs.Numbers.{narrow};
-ghost use Rattle.evtchn_fifo.specs.DomainRecord.{domainSize, tailAt, putTail, putMove};
-ghost use Rattle.evtchn_fifo.specs.Encoded.{wrote, carried, freshened};
-ghost use Rattle.evtchn_fifo.specs.Hypervisor.{nextAt, tailFor, initBytes, expandBytes, startsOf, startBytes, onPort, bindBytes, closeBytes, setPriorityBytes, raiseBytes, unmaskBytes, moveBytes, replyBytes, dueBytes, freshDomainBytes};
+ghost use mathlib.Core.Bool.{false};
+ghost use Rattle.word.specs.Word.{linkBits, queueAt};
+ghost use Rattle.calls.specs.Records.{isFree, inArray};
+ghost use Rattle.calls.specs.Records.{callAt as calledAt};
+ghost use Rattle.calls.specs.Hypervisor.{acceptPort, dueFirst};
+ghost use Rattle.calls.specs.declared.types.Stage.the-variants.{First};
+ghost use Rattle.calls.specs.declared.types.Answer.the-variants.{Done};
+ghost use Rattle.evtchn_fifo.specs.Ledger.{entryIn, putEntry};
+ghost use Rattle.evtchn_fifo.specs.DomainRecord.{domainSize, ownerAt, givenAt, pagesAt, putCall};
+ghost use Rattle.evtchn_fifo.specs.Encoded.{unpacked, wrote, carried, freshened, encodedAnswer, encodedAccess};
+ghost use Rattle.evtchn_fifo.specs.Hypervisor.{nextAt, initBytes, expandBytes, bindBytes, closeBytes, setPriorityBytes, raiseBytes, unmaskBytes, replyBytes, dueBytes, freshDomainBytes};
+ghost use Rattle.evtchn_fifo.specs.InPlace.{linkBytes};
 use crate::domain_record;
 use crate::encoded;
-use crate::encoded::EncodedNext;
+use crate::encoded::PackedNext;
 use crate::layout;
 use crate::ledger;
 use crate::numbers;
+use crate::replies;
 use calls::hypervisor::stage;
-use calls::hypervisor::stage::Move;
 use calls::hypervisor::start;
 use calls::hypervisor::start::Acceptance;
-use calls::hypervisor::start::Begin;
+use calls::hypervisor::start::PortAcceptance;
 use calls::records;
-use calls::records::Lookup;
 use calls::types::Answer;
 use calls::types::Call;
 use calls::types::Owner;
@@ -29,9 +35,9 @@ use word::Priority;
 use word::Queue;
 
 // The access that a record's call waits for, or the answer with its count where there is none.
-fn next_at(domain: &[u8], call: Call, answer: Answer, count: u32) -> EncodedNext
+fn next_at(domain: &[u8], call: Call, answer: Answer, count: u32) -> PackedNext
     requires { ⌜ domainSize ≤ length (now domain) ⌝ }
-    ensures { λ r. ⌜ r ≡ nextAt linkBits (now (domain .entry)) call answer count ⌝ }
+    ensures { λ r. ⌜ unpacked r ≡ nextAt linkBits (now (domain .entry)) call answer count ⌝ }
 {
     let owner = call.owner;
     let free = records::is_free(owner);
@@ -64,8 +70,8 @@ pub extern "C" fn evtchn_fifo_init_control(
     frame: u64,
     frames: u64,
     offset: u64,
-) -> EncodedNext
-    ensures { λ r. ⌜ wrote r (now (domain .exit)) ≡ initBytes linkBits (now (domain .entry)) vcpu frame frames offset ⌝ }
+) -> PackedNext
+    ensures { λ r. ⌜ wrote (unpacked r) (now (domain .exit)) ≡ initBytes linkBits (now (domain .entry)) vcpu frame frames offset ⌝ }
 {
     let short = domain.len() < layout::DOMAIN_SIZE;
     if short {
@@ -86,12 +92,8 @@ pub extern "C" fn evtchn_fifo_init_control(
 }
 
 #[no_mangle]
-pub extern "C" fn evtchn_fifo_expand_array(
-    domain: &mut [u8],
-    frame: u64,
-    frames: u64,
-) -> EncodedNext
-    ensures { λ r. ⌜ wrote r (now (domain .exit)) ≡ expandBytes linkBits (now (domain .entry)) frame frames ⌝ }
+pub extern "C" fn evtchn_fifo_expand_array(domain: &mut [u8], frame: u64, frames: u64) -> PackedNext
+    ensures { λ r. ⌜ wrote (unpacked r) (now (domain .exit)) ≡ expandBytes linkBits (now (domain .entry)) frame frames ⌝ }
 {
     let short = domain.len() < layout::DOMAIN_SIZE;
     if short {
@@ -110,89 +112,108 @@ pub extern "C" fn evtchn_fifo_expand_array(
     }
 }
 
-// A call on a port.
-pub enum PortCall {
-    Bind,
-    Close,
-    SetPriority(Priority),
-    Raise,
-    Unmask,
-}
-
-// How it starts.
-pub fn begin(
-    call: PortCall,
-    owner: Owner,
-    given: bool,
-    pages: u32,
-    port: Port,
-    found: Lookup,
-) -> Begin
-    ensures { λ r. ⌜ r ≡ startsOf linkBits call owner given pages port found ⌝ }
-{
-    match call {
-        PortCall::Bind => start::begin_bind(owner, given, pages, port, found),
-        PortCall::Close => start::begin_close(owner, given, pages, port, found),
-        PortCall::SetPriority(priority) => start::begin_priority(
-            owner,
-            given,
-            port,
-            priority,
-            found,
-        ),
-        PortCall::Raise => start::begin_link(Owner::Raise, owner, given, pages, port, found),
-        PortCall::Unmask => start::begin_link(Owner::Unmask, owner, given, pages, port, found),
-    }
-}
-
-// The start is carried out.
-fn started(domain: &mut [u8], ledger: &mut [u8], port: Port, begin: Begin) -> EncodedNext
+// The entry of a port that gets past 15, 10, 3 and 14, each tested in its turn.
+fn accepted(domain: &[u8], ledger: &[u8], port: Port) -> PortAcceptance
     requires { ⌜ domainSize ≤ length (now domain) ⌝ }
-    ensures { λ r. ⌜ carried r (now (domain .exit)) (now (ledger .exit)) ≡ startBytes linkBits (now (domain .entry)) (now (ledger .entry)) port begin ⌝ }
+    ensures { λ r. ⌜ r ≡ acceptPort linkBits (ownerAt (now (domain .entry))) (givenAt (now (domain .entry))) port (entryIn (now (ledger .entry)) (port .0)) ⌝ }
 {
-    match begin {
-        Begin::Refused(answer) => encoded::encoded_answer(answer, 0),
-        Begin::Begun(call) => {
-            let next = next_at(domain, call, Answer::Done, 0);
-            domain_record::put_call(domain, call);
-            next
-        }
-        Begin::Settled(entry) => {
-            ledger::put_entry(ledger, port, entry);
-            encoded::encoded_answer(Answer::Done, 0)
-        }
+    let busy = domain_record::is_under_way(domain);
+    if busy {
+        return PortAcceptance::Refused(Answer::CallUnderWay);
     }
+    let ungiven = !domain_record::given_at(domain);
+    if ungiven {
+        return PortAcceptance::Refused(Answer::NotGiven);
+    }
+    let bad = !records::is_port(port);
+    if bad {
+        return PortAcceptance::Refused(Answer::BadPort);
+    }
+    let missing = !ledger::has_entry(ledger, port);
+    if missing {
+        return PortAcceptance::Refused(Answer::NoEntry);
+    }
+    let entry = ledger::entry_of(ledger, port);
+    PortAcceptance::Entry(entry)
 }
 
-// One function for all five, so that the start of each is compiled into it.
-fn port_call(domain: &mut [u8], ledger: &mut [u8], port: u64, call: PortCall) -> EncodedNext
-    ensures { λ r. ⌜ carried r (now (domain .exit)) (now (ledger .exit)) ≡ onPort linkBits (startsOf linkBits call) (now (domain .entry)) (now (ledger .entry)) (portAt (narrow port)) ⌝ }
+// The call is under way, and its first access named.
+fn begun(domain: &mut [u8], owner: Owner, port: Port) -> PackedNext
+    requires { ⌜ domainSize ≤ length (now domain) ⌝ }
+    ensures { λ r. ⌜ wrote (unpacked r) (now (domain .exit)) ≡ wrote (encodedAccess (dueFirst owner port)) (putCall (now (domain .entry)) (calledAt owner First port (queueAt 0) 1)) ⌝ }
+{
+    let call = records::call_at(owner, Stage::First, port, Queue(0), 1);
+    domain_record::put_call(domain, call);
+    let access = stage::due_first(owner, port);
+    encoded::encoded_access(access)
+}
+
+// The entry changes at once.
+fn settled(ledger: &mut [u8], port: Port, entry: u16) -> PackedNext
+    ensures { λ r. ⌜ wrote (unpacked r) (now (ledger .exit)) ≡ wrote (encodedAnswer Done 0) (putEntry (now (ledger .entry)) (port .0) entry) ⌝ }
+{
+    ledger::put_entry(ledger, port, entry);
+    encoded::encoded_answer(Answer::Done, 0)
+}
+
+fn inside(domain: &[u8], port: Port) -> bool
+    requires { ⌜ domainSize ≤ length (now domain) ⌝ }
+    ensures { λ r. ⌜ r ≡ inArray (pagesAt (now (domain .entry))) (port .0) ⌝ }
+{
+    let pages = numbers::u32_at(domain, layout::PAGES);
+    records::in_array(pages, port)
+}
+
+#[no_mangle]
+pub extern "C" fn evtchn_fifo_bind(domain: &mut [u8], ledger: &mut [u8], port: u64) -> PackedNext
+    ensures { λ r. ⌜ carried (unpacked r) (now (domain .exit)) (now (ledger .exit)) ≡ bindBytes linkBits (now (domain .entry)) (now (ledger .entry)) port ⌝ }
 {
     let short = domain.len() < layout::DOMAIN_SIZE;
     if short {
         return encoded::too_short();
     }
     let number = numbers::narrowed(port);
-    let owner = domain_record::owner_at(domain);
-    let given = domain_record::given_at(domain);
-    let pages = numbers::u32_at(domain, layout::PAGES);
-    let found = ledger::entry_in(ledger, Port(number));
-    let begin = begin(call, owner, given, pages, Port(number), found);
-    started(domain, ledger, Port(number), begin)
+    match accepted(domain, ledger, Port(number)) {
+        PortAcceptance::Refused(answer) => encoded::encoded_answer(answer, 0),
+        PortAcceptance::Entry(entry) => {
+            let bound = word::entry::is_bound(entry);
+            if bound {
+                return encoded::encoded_answer(Answer::AlreadyBound, 0);
+            }
+            let inside = inside(domain, Port(number));
+            if inside {
+                return begun(domain, Owner::Bind, Port(number));
+            }
+            let bound_entry = word::entry::bound_entry(entry);
+            settled(ledger, Port(number), bound_entry)
+        }
+    }
 }
 
 #[no_mangle]
-pub extern "C" fn evtchn_fifo_bind(domain: &mut [u8], ledger: &mut [u8], port: u64) -> EncodedNext
-    ensures { λ r. ⌜ carried r (now (domain .exit)) (now (ledger .exit)) ≡ bindBytes linkBits (now (domain .entry)) (now (ledger .entry)) port ⌝ }
+pub extern "C" fn evtchn_fifo_close(domain: &mut [u8], ledger: &mut [u8], port: u64) -> PackedNext
+    ensures { λ r. ⌜ carried (unpacked r) (now (domain .exit)) (now (ledger .exit)) ≡ closeBytes linkBits (now (domain .entry)) (now (ledger .entry)) port ⌝ }
 {
-    port_call(domain, ledger, port, PortCall::Bind)
-}
-
-#[no_mangle]
-pub extern "C" fn evtchn_fifo_close(domain: &mut [u8], ledger: &mut [u8], port: u64) -> EncodedNext
-    ensures { λ r. ⌜ carried r (now (domain .exit)) (now (ledger .exit)) ≡ closeBytes linkBits (now (domain .entry)) (now (ledger .entry)) port ⌝ }
-{
-    port_call(domain, ledger, port, PortCall::Close)
+    let short = domain.len() < layout::DOMAIN_SIZE;
+    if short {
+        return encoded::too_short();
+    }
+    let number = numbers::narrowed(port);
+    match accepted(domain, ledger, Port(number)) {
+        PortAcceptance::Refused(answer) => encoded::encoded_answer(answer, 0),
+        PortAcceptance::Entry(entry) => {
+            let unbound = !word::entry::is_bound(entry);
+            if unbound {
+                return encoded::encoded_answer(Answer::NotBound, 0);
+            }
+            let inside = inside(domain, Port(number));
+            if inside {
+                return begun(domain, Owner::Close, Port(number));
+            }
+            let closed = word::entry::closed_entry(entry);
+            settled(ledger, Port(number), closed)
+        }
+    }
 }
 
 #[no_mangle]
@@ -201,102 +222,94 @@ pub extern "C" fn evtchn_fifo_set_priority(
     ledger: &mut [u8],
     port: u64,
     priority: u64,
-) -> EncodedNext
-    ensures { λ r. ⌜ carried r (now (domain .exit)) (now (ledger .exit)) ≡ setPriorityBytes linkBits (now (domain .entry)) (now (ledger .entry)) port priority ⌝ }
-{
-    let level = numbers::narrowed(priority);
-    port_call(domain, ledger, port, PortCall::SetPriority(Priority(level)))
-}
-
-#[no_mangle]
-pub extern "C" fn evtchn_fifo_raise(domain: &mut [u8], ledger: &mut [u8], port: u64) -> EncodedNext
-    ensures { λ r. ⌜ carried r (now (domain .exit)) (now (ledger .exit)) ≡ raiseBytes linkBits (now (domain .entry)) (now (ledger .entry)) port ⌝ }
-{
-    port_call(domain, ledger, port, PortCall::Raise)
-}
-
-#[no_mangle]
-pub extern "C" fn evtchn_fifo_unmask(domain: &mut [u8], ledger: &mut [u8], port: u64) -> EncodedNext
-    ensures { λ r. ⌜ carried r (now (domain .exit)) (now (ledger .exit)) ≡ unmaskBytes linkBits (now (domain .entry)) (now (ledger .entry)) port ⌝ }
-{
-    port_call(domain, ledger, port, PortCall::Unmask)
-}
-
-// The tail that the access of a stage is on, once the reply's changes are written; only R3 and R4 look at one.
-fn tail_for(domain: &[u8], stage: Stage, queue: Queue, changed: Queue, tail: u32) -> u32
-    requires { ⌜ domainSize ≤ length (now domain) ⌝ }
-    ensures { λ r. ⌜ r ≡ tailFor stage (tailAt (putTail (now (domain .entry)) (changed .0) tail) (queue .0)) ⌝ }
-{
-    match stage {
-        Stage::R3 => domain_record::tail_after(domain, changed, tail, queue),
-        Stage::R4 => domain_record::tail_after(domain, changed, tail, queue),
-        Stage::First => 0,
-        Stage::R2 => 0,
-        Stage::R5 => 0,
-        Stage::R6 => 0,
-    }
-}
-
-// What the record will wait for once the reply's changes are written.
-fn next_after(domain: &[u8], step: Move) -> EncodedNext
-    requires { ⌜ domainSize ≤ length (now domain) ⌝ }
-    ensures { λ r. ⌜ r ≡ nextAt linkBits (putMove (now (domain .entry)) step) (step .call) (step .answer) (step .count) ⌝ }
-{
-    let call = step.call;
-    let answer = step.answer;
-    let owner = call.owner;
-    let free = records::is_free(owner);
-    if free {
-        return encoded::encoded_answer(answer, step.count);
-    }
-    let queue = call.queue;
-    let stage = call.stage;
-    let changed = step.queue;
-    let tail = tail_for(domain, stage, queue, changed, step.tail);
-    let access = stage::due(call, tail);
-    encoded::encoded_access(access)
-}
-
-// What a reply changes in the record is written. The next access is named first: then the compiler goes by the stage once.
-fn moved(domain: &mut [u8], step: Move) -> EncodedNext
-    requires { ⌜ domainSize ≤ length (now domain) ⌝ }
-    ensures { λ r. ⌜ wrote r (now (domain .exit)) ≡ moveBytes linkBits (now (domain .entry)) step ⌝ }
-{
-    let next = next_after(domain, step);
-    domain_record::put_move(domain, step);
-    next
-}
-
-// The reply to the access that was named last, with the word seen.
-#[no_mangle]
-pub extern "C" fn evtchn_fifo_reply(domain: &mut [u8], ledger: &mut [u8], seen: u32) -> EncodedNext
-    ensures { λ r. ⌜ carried r (now (domain .exit)) (now (ledger .exit)) ≡ replyBytes linkBits (now (domain .entry)) (now (ledger .entry)) seen ⌝ }
+) -> PackedNext
+    ensures { λ r. ⌜ carried (unpacked r) (now (domain .exit)) (now (ledger .exit)) ≡ setPriorityBytes linkBits (now (domain .entry)) (now (ledger .entry)) port priority ⌝ }
 {
     let short = domain.len() < layout::DOMAIN_SIZE;
     if short {
         return encoded::too_short();
     }
-    let idle = domain_record::is_idle(domain);
-    if idle {
+    let number = numbers::narrowed(port);
+    match accepted(domain, ledger, Port(number)) {
+        PortAcceptance::Refused(answer) => encoded::encoded_answer(answer, 0),
+        PortAcceptance::Entry(entry) => {
+            let level = numbers::narrowed(priority);
+            let above = 15 < level;
+            if above {
+                return encoded::encoded_answer(Answer::BadPriority, 0);
+            }
+            let changed = word::entry::with_priority(entry, Priority(level));
+            settled(ledger, Port(number), changed)
+        }
+    }
+}
+
+// raise and unmask: 4, 6.
+fn link_call(domain: &mut [u8], ledger: &mut [u8], port: u64, owner: Owner) -> PackedNext
+    requires { ⌜ isFree owner ≡ false ⌝ }
+    ensures { λ r. ⌜ carried (unpacked r) (now (domain .exit)) (now (ledger .exit)) ≡ linkBytes linkBits owner (now (domain .entry)) (now (ledger .entry)) port ⌝ }
+{
+    let short = domain.len() < layout::DOMAIN_SIZE;
+    if short {
+        return encoded::too_short();
+    }
+    let number = numbers::narrowed(port);
+    match accepted(domain, ledger, Port(number)) {
+        PortAcceptance::Refused(answer) => encoded::encoded_answer(answer, 0),
+        PortAcceptance::Entry(entry) => {
+            let unbound = !word::entry::is_bound(entry);
+            if unbound {
+                return encoded::encoded_answer(Answer::NotBound, 0);
+            }
+            let outside = !inside(domain, Port(number));
+            if outside {
+                return encoded::encoded_answer(Answer::OutsideArray, 0);
+            }
+            begun(domain, owner, Port(number))
+        }
+    }
+}
+
+#[no_mangle]
+pub extern "C" fn evtchn_fifo_raise(domain: &mut [u8], ledger: &mut [u8], port: u64) -> PackedNext
+    ensures { λ r. ⌜ carried (unpacked r) (now (domain .exit)) (now (ledger .exit)) ≡ raiseBytes linkBits (now (domain .entry)) (now (ledger .entry)) port ⌝ }
+{
+    link_call(domain, ledger, port, Owner::Raise)
+}
+
+#[no_mangle]
+pub extern "C" fn evtchn_fifo_unmask(domain: &mut [u8], ledger: &mut [u8], port: u64) -> PackedNext
+    ensures { λ r. ⌜ carried (unpacked r) (now (domain .exit)) (now (ledger .exit)) ≡ unmaskBytes linkBits (now (domain .entry)) (now (ledger .entry)) port ⌝ }
+{
+    link_call(domain, ledger, port, Owner::Unmask)
+}
+
+// The reply to the access that was named last, with the word seen. Here and in the guest's reply each refusal stands behind what
+// its test lets through: the compiler lays code out in that order, so that a call which goes on takes no jump.
+#[no_mangle]
+pub extern "C" fn evtchn_fifo_reply(domain: &mut [u8], ledger: &mut [u8], seen: u32) -> PackedNext
+    ensures { λ r. ⌜ carried (unpacked r) (now (domain .exit)) (now (ledger .exit)) ≡ replyBytes linkBits (now (domain .entry)) (now (ledger .entry)) seen ⌝ }
+{
+    let long = layout::DOMAIN_SIZE <= domain.len();
+    if long {
+        let under_way = domain_record::is_under_way(domain);
+        if under_way {
+            let port = numbers::u32_at(domain, layout::PORT);
+            let found = ledger::has_entry(ledger, Port(port));
+            if found {
+                return replies::reply_staged(domain, ledger, seen);
+            }
+            return encoded::encoded_answer(Answer::NoEntry, 0);
+        }
         return encoded::encoded_answer(Answer::NoCall, 0);
     }
-    let call = domain_record::call_at(domain);
-    let port = call.port;
-    let found = ledger::entry_in(ledger, port);
-    let Lookup::Found(entry) = found else {
-        return encoded::encoded_answer(Answer::NoEntry, 0);
-    };
-    let view = domain_record::view_at(domain, entry);
-    let step = stage::staged(call, entry, view, seen);
-    let next = moved(domain, step);
-    ledger::put_entry(ledger, port, step.entry);
-    next
+    encoded::too_short()
 }
 
 // The access that the call under way waits for; 16 where none is.
 #[no_mangle]
-pub extern "C" fn evtchn_fifo_due(domain: &[u8]) -> EncodedNext
-    ensures { λ r. ⌜ r ≡ dueBytes linkBits (now (domain .entry)) ⌝ }
+pub extern "C" fn evtchn_fifo_due(domain: &[u8]) -> PackedNext
+    ensures { λ r. ⌜ unpacked r ≡ dueBytes linkBits (now (domain .entry)) ⌝ }
 {
     let short = domain.len() < layout::DOMAIN_SIZE;
     if short {

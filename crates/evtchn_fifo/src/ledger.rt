@@ -1,22 +1,28 @@
 // The ledger in bytes: an entry of two bytes a port. A last odd byte is no entry.
 ghost use mathlib.Core.Path.{_≡_};
-ghost use Prim.Native.Nat.{_/_};
-ghost use Rattle.evtchn_fifo.specs.Ledger.{entryIn, putEntry, freshLedgerBytes};
+ghost use Prim.Native.Nat.{_/_, _*_};
+ghost use mathlib.Core.Bool.{true};
+ghost use lib.Dec.{ltb};
+ghost use Rattle.evtchn_fifo.specs.Numbers.{numberAt};
+ghost use Rattle.evtchn_fifo.specs.Ledger.{entries, putEntry, freshLedgerBytes};
 ghost use Rattle.evtchn_fifo.specs.Encoded.{freshened};
 use crate::numbers;
-use calls::records::Lookup;
 use word::Port;
 
-pub fn entry_in(ledger: &[u8], port: Port) -> Lookup
-    ensures { λ r. ⌜ r ≡ entryIn (now (ledger .entry)) (port .0) ⌝ }
+pub(crate) fn has_entry(ledger: &[u8], port: Port) -> bool
+    ensures { λ r. ⌜ r ≡ ltb (port .0) (entries (now (ledger .entry))) ⌝ }
 {
     let p = port.0 as usize;
-    let inside = p < ledger.len() / 2;
-    if inside {
-        let entry = numbers::u16_at(ledger, p * 2);
-        return Lookup::Found(entry);
-    }
-    Lookup::Missing
+    p < ledger.len() / 2
+}
+
+// The entry of a port that has one.
+pub(crate) fn entry_of(ledger: &[u8], port: Port) -> u16
+    requires { ⌜ ltb (port .0) (entries (now ledger)) ≡ true ⌝ }
+    ensures { λ r. ⌜ r ≡ numberAt 1 (now (ledger .entry)) (port .0 * 2) ⌝ }
+{
+    let p = port.0 as usize;
+    numbers::u16_at(ledger, p * 2)
 }
 
 // The ledger with another entry for a port; a port that it has no entry for changes nothing.

@@ -9,3 +9,4 @@ pub mod hypervisor;
 pub mod layout;
 pub mod ledger;
 pub mod numbers;
+mod replies;

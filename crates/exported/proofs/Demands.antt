@@ -39,7 +39,7 @@ use Rattle.interleaving.proofs.Example.{example-holds}
 use Rattle.evtchn_fifo.specs.Encoded.{encodedMasking, encodedAnswer}
 use Rattle.evtchn_fifo.specs.Ledger.{entries}
 use Rattle.evtchn_fifo.specs.Numbers.{narrow, putNumber, putNumbers}
-use Rattle.evtchn_fifo.specs.DomainRecord.{domainSize, domainAt, callAt, pagesAt, putCall, putDomain}
+use Rattle.evtchn_fifo.specs.DomainRecord.{domainSize, domainAt, pagesAt, putNext, putCall, putDomain}
 use Rattle.evtchn_fifo.specs.GuestRecord.{guestSize, guestAt, wordsAt, putService, putGuest}
 use Rattle.evtchn_fifo.specs.Hypervisor.{freshDomainBytes}
 use Rattle.evtchn_fifo.specs.Guest.{maskBytes, freshGuestBytes}
@@ -64,7 +64,7 @@ is-reply (Starts s t) = refl
 is-reply (Replies seen t) = refl
 
 domain-simulates : {n : ℕ} → n ≢ 0 → Simulates (domainSide n) (hypervisorSide n) (λ d. 1024 * pagesAt d) arrayWords (λ r. domainSize ≤ length r) domainAt actOf
-unfolding domainAt callAt
+unfolding domainAt
 domain-simulates {n} some = record {
   fits = λ r f q. rw (request-length n r q) f;
   after = λ r f q. ap (λ (x : Meant). x .domain) (request-means n r f q);
@@ -145,7 +145,7 @@ module _ {n : ℕ} (wide : Width n) where
       (demand3 wide lent (entries t) (map narrowStep steps) enough rules)
 
 pub zeros-are-fresh : ZerosAreFresh
-unfolding freshDomainBytes freshGuestBytes putDomain putCall putGuest putService putNumber putNumbers
+unfolding freshDomainBytes freshGuestBytes putDomain putCall putNext putGuest putService putNumber putNumbers
 zeros-are-fresh = record { domain = refl; guest = refl }
 
 pub example-of-bytes : ExampleOfBytes

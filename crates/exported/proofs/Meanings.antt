@@ -12,11 +12,10 @@ use Rattle.machine.specs.declared.types.Start.{Start}
 use Rattle.machine.specs.declared.types.Start.the-variants.{InitControl, ExpandArray, Bind, Close, SetPriority, Raise, Unmask}
 use Rattle.evtchn_fifo.specs.Numbers.{narrow}
 use Rattle.evtchn_fifo.specs.Ledger.{ledgerAt}
-use Rattle.evtchn_fifo.specs.declared.hypervisor.PortCall.{PortCall}
-use Rattle.evtchn_fifo.specs.declared.hypervisor.PortCall.the-variants as portCall
+use Rattle.evtchn_fifo.specs.Hypervisor as portCall
 use Rattle.evtchn_fifo.specs.DomainRecord.{domainSize, domainAt}
 use Rattle.evtchn_fifo.specs.GuestRecord.{guestSize, guestAt}
-use Rattle.evtchn_fifo.specs.Hypervisor.{startsOf, onPort}
+use Rattle.evtchn_fifo.specs.Hypervisor.{PortCall, startsOf, onPort}
 use Rattle.evtchn_fifo.specs.Claims.{Meant, meant, told, MeantAlone, meantGuest, toldGuest}
 use Rattle.evtchn_fifo.proofs.Meaning.{domain-calls}
 use Rattle.evtchn_fifo.proofs.GuestMeaning.{guest-calls}

@@ -40,8 +40,8 @@ use Rattle.machine.specs.declared.types.Event.the-variants.{Nothing, Hypervisor
 use Rattle.evtchn_fifo.specs.Numbers.{narrow}
 use Rattle.evtchn_fifo.specs.Encoded.{encodedNext, encodedAnswer, encodedMasking}
 use Rattle.evtchn_fifo.specs.Ledger.{ledgerAt}
-use Rattle.evtchn_fifo.specs.DomainRecord.{domainAt, callAt, pagesAt}
-use Rattle.evtchn_fifo.specs.GuestRecord.{guestAt, serviceAt, wordsAt}
+use Rattle.evtchn_fifo.specs.DomainRecord.{domainAt, pagesAt}
+use Rattle.evtchn_fifo.specs.GuestRecord.{guestAt, wordsAt}
 use Rattle.evtchn_fifo.specs.Hypervisor.{dueBytes}
 use Rattle.evtchn_fifo.specs.Guest.{maskBytes, serviceDueBytes}
 use Rattle.evtchn_fifo.specs.Claims.{Meant, MeantAlone, MeantGuest}
@@ -133,7 +133,7 @@ module _ {n : ℕ} (wide : Width n) (b : Bytes) (long : LongEnough b) where
   unfolding domainAt
   perform-is (next.Access a) =
       let seen = performed (b .memory) a .seen in
-      asked-is (Replies seen (b .ledger)) (HypervisorAccess (callAt (b .domain)) a seen) (performed (b .memory) a .memory)
+      asked-is (Replies seen (b .ledger)) (HypervisorAccess (domain .call) a seen) (performed (b .memory) a .memory)
   perform-is (next.Answer a count) = asked-is (Replies 0 (b .ledger)) Nothing (b .memory)
 
   due-is : decodedNext (dueBytes n (b .domain)) ≡ dueOf n domain
@@ -149,7 +149,7 @@ module _ {n : ℕ} (wide : Width n) (b : Bytes) (long : LongEnough b) where
   unfolding guestAt
   guest-perform-is (next.Access a) =
       let seen = performed (b .memory) a .seen in
-      served-is (ServiceReplies seen) (GuestAccess (serviceAt (b .guest)) a seen) (performed (b .memory) a .memory)
+      served-is (ServiceReplies seen) (GuestAccess (guest .call) a seen) (performed (b .memory) a .memory)
   guest-perform-is (next.Answer a count) = served-is (ServiceReplies 0) Nothing (b .memory)
 
   service-due-is : decodedNext (serviceDueBytes n (b .guest)) ≡ guestDueOf n guest

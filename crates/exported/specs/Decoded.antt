@@ -15,8 +15,7 @@ use Rattle.calls.specs.declared.types.Answer.{Answer}
 use Rattle.calls.specs.declared.types.Answer.the-variants.{Done, LinkBits, UpcallWanted, LinkAbandoned, BadPort, NotBound, AlreadyBound, OutsideArray, StillLinked, BadPriority, AlreadyGiven, NotGiven, BadFrame, BadOffset, TooManyPages, NoEntry, CallUnderWay, NoCall, BadVcpu, BadIndex, HandedOver, NothingReady, Taken}
 use Rattle.calls.specs.declared.types.Next.{Next}
 use Rattle.calls.specs.declared.types.Next.the-variants as next
-use Rattle.evtchn_fifo.specs.declared.encoded.EncodedNext.{EncodedNext}
-use Rattle.evtchn_fifo.specs.Encoded.{encodedAnswer, encodedAccess}
+use Rattle.evtchn_fifo.specs.Encoded.{EncodedNext, encodedAnswer, encodedAccess}
 
 -- an answer by its number and the value that it carries: 0 with link bits is init_control's; 16 stands for any other number too
 unfoldable pub decodedAnswer : ℕ → ℕ → Answer

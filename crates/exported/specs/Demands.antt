@@ -21,8 +21,8 @@ use Rattle.interleaving.specs.Claim.{Claim}
 use Rattle.interleaving.specs.Example.{example}
 use Rattle.evtchn_fifo.specs.Encoded.{Wrote, Carried}
 use Rattle.evtchn_fifo.specs.Ledger.{entries}
-use Rattle.evtchn_fifo.specs.DomainRecord.{domainSize, ownerAt, callAt, pagesAt}
-use Rattle.evtchn_fifo.specs.GuestRecord.{guestSize, serviceAt, wordsAt}
+use Rattle.evtchn_fifo.specs.DomainRecord.{domainSize, domainAt, pagesAt}
+use Rattle.evtchn_fifo.specs.GuestRecord.{guestSize, guestAt, wordsAt}
 use Rattle.evtchn_fifo.specs.Hypervisor.{replyBytes, dueBytes, freshDomainBytes}
 use Rattle.evtchn_fifo.specs.Guest.{serviceBytes, serviceReplyBytes, serviceDueBytes, maskBytes, tellBytes, freshGuestBytes}
 use Rattle.exported.specs.Decoded.{decodedNext}
@@ -50,8 +50,8 @@ domainSide n =
       gives = λ r q. decodedNext (carriedBy n r q .next);
       replies = isReply;
       due = λ r. decodedNext (dueBytes n r);
-      underWay = λ r. not (isFree (ownerAt r));
-      count = λ r. callAt r .count;
+      underWay = λ r. not (isFree (domainAt r .call .owner));
+      count = λ r. domainAt r .call .count;
     }
 
 abbrev pub wroteBy : ℕ → List ℕ → GuestAct → Wrote
@@ -66,8 +66,8 @@ guestSide n =
       gives = λ r act. decodedNext (wroteBy n r act .next);
       replies = isGuestReply;
       due = λ r. decodedNext (serviceDueBytes n r);
-      underWay = λ r. isServing (serviceAt r .stage);
-      count = λ r. serviceAt r .count;
+      underWay = λ r. isServing (guestAt r .call .stage);
+      count = λ r. guestAt r .call .count;
     }
 
 -- every access inside the array, or the guest's words, or the control block; nine at most, and five; a mask's below its words

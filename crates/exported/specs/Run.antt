@@ -27,8 +27,8 @@ use Rattle.machine.specs.declared.types.Event.the-variants.{Nothing, Hypervisor
 use Rattle.evtchn_fifo.specs.Numbers.{narrow}
 use Rattle.evtchn_fifo.specs.Encoded.{Wrote, Carried, carried}
 use Rattle.evtchn_fifo.specs.Ledger.{ledgerAt, freshLedgerBytes}
-use Rattle.evtchn_fifo.specs.DomainRecord.{domainSize, domainAt, callAt, pagesAt}
-use Rattle.evtchn_fifo.specs.GuestRecord.{guestSize, guestAt, serviceAt, wordsAt}
+use Rattle.evtchn_fifo.specs.DomainRecord.{domainSize, domainAt, pagesAt}
+use Rattle.evtchn_fifo.specs.GuestRecord.{guestSize, guestAt, wordsAt}
 use Rattle.evtchn_fifo.specs.Hypervisor.{initBytes, expandBytes, bindBytes, closeBytes, setPriorityBytes, raiseBytes, unmaskBytes, replyBytes, dueBytes, freshDomainBytes}
 use Rattle.evtchn_fifo.specs.Guest.{serviceBytes, serviceReplyBytes, serviceDueBytes, maskBytes, tellBytes, freshGuestBytes}
 use Rattle.exported.specs.Decoded.{decodedNext}
@@ -101,7 +101,7 @@ startDid n b s = hypervisorDid b (startBytes n (b .domain) (b .ledger) s) Nothin
 -- the access that is due is made and its word handed back; where no call is under way, 0 is
 abbrev pub performHypervisor : ℕ → Bytes → Next → SteppedBytes
 performHypervisor n b (next.Access a) =
-    hypervisorDid b (replyBytes n (b .domain) (b .ledger) (performed (b .memory) a .seen)) (HypervisorAccess (callAt (b .domain)) a (performed (b .memory) a .seen)) (performed (b .memory) a .memory)
+    hypervisorDid b (replyBytes n (b .domain) (b .ledger) (performed (b .memory) a .seen)) (HypervisorAccess (domainAt (b .domain) .call) a (performed (b .memory) a .seen)) (performed (b .memory) a .memory)
 performHypervisor n b (next.Answer a count) = hypervisorDid b (replyBytes n (b .domain) (b .ledger) 0) Nothing (b .memory)
 
 -- ---- the guest's part
@@ -114,7 +114,7 @@ guestDid b w access m = record {
 
 abbrev pub performGuest : ℕ → Bytes → Next → SteppedBytes
 performGuest n b (next.Access a) =
-    guestDid b (serviceReplyBytes n (b .guest) (performed (b .memory) a .seen)) (GuestAccess (serviceAt (b .guest)) a (performed (b .memory) a .seen)) (performed (b .memory) a .memory)
+    guestDid b (serviceReplyBytes n (b .guest) (performed (b .memory) a .seen)) (GuestAccess (guestAt (b .guest) .call) a (performed (b .memory) a .seen)) (performed (b .memory) a .memory)
 performGuest n b (next.Answer a count) = guestDid b (serviceReplyBytes n (b .guest) 0) Nothing (b .memory)
 
 -- a mask's access says its answer 0 and its count 1, and takes no reply

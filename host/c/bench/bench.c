@@ -1,5 +1,7 @@
 /*
- * The cost of one call, whole, with real atomic accesses: bench CALL REPEATS [PAGES PORT OTHERS]. Linked with one archive.
+ * The cost of one call, whole, with real atomic accesses: bench CALL REPEATS [PAGES PORT OTHERS]. CALL-locked is the same with a lock
+ * taken and given back. Linked with one archive, whose calls the run loops of evtchn_fifo_atomic.h bring to their answer; compiled
+ * with IN_PLACE, raise, unmask and service are those of in_place.h instead.
  *
  * The state just before the call is made by the library's own calls: a domain with PAGES pages and a ledger for all of their
  * ports, and OTHERS ports that stand on a queue. Each repeat puts back the few words that the call changed, and no buffer is
@@ -12,7 +14,7 @@
 #include <string.h>
 #include <time.h>
 
-#include "evtchn_fifo_atomic.h"
+#include "in_place.h"
 
 #define QUEUE 7u /* every port's, unless its priority is changed */
 #define ROUNDS 20
@@ -20,15 +22,16 @@
 static struct state {
     evtchn_fifo_domain domain;
     evtchn_fifo_guest guest;
+    evtchn_fifo_shared shared;
+    uint32_t lock;
     uint32_t control[EVTCHN_FIFO_CONTROL_WORDS];
     uint16_t ledger[EVTCHN_FIFO_PORTS];
     uint32_t apart[256]; /* addresses that differ by a multiple of 4,096 only hinder each other in the processor */
     uint32_t words[EVTCHN_FIFO_PORTS];
+    uint32_t *pages[EVTCHN_FIFO_PORTS / EVTCHN_FIFO_PAGE_WORDS];
 } state, before;
 
-static uint32_t *pages[EVTCHN_FIFO_PORTS / EVTCHN_FIFO_PAGE_WORDS];
-static evtchn_fifo_shared shared = {state.control, pages, 0};
-static uint32_t page_count = 1, port = 5, others = 1;
+static uint32_t page_count = 1, port = 5, others;
 
 static void fail(const char *text)
 {
@@ -36,39 +39,83 @@ static void fail(const char *text)
     exit(1);
 }
 
-/* ---- calls from their start to their answer ---- */
+/* ---- calls from their start to their answer, on what a pointer leads to ---- */
 
-static evtchn_fifo_next to_answer(evtchn_fifo_next next)
+#ifdef IN_PLACE
+static inline evtchn_fifo_next raise(struct state *s, uint32_t p) { return in_place_raise(&s->domain, s->ledger, s->shared.words, &s->shared, p); }
+static inline evtchn_fifo_next unmask(struct state *s, uint32_t p) { return in_place_unmask(&s->domain, s->ledger, s->shared.words, &s->shared, p); }
+static inline evtchn_fifo_next service(struct state *s) { return in_place_service(&s->guest, &s->shared); }
+#else
+static inline evtchn_fifo_next raise(struct state *s, uint32_t p)
 {
-    uint32_t seen;
-    while (evtchn_fifo_perform(&shared, next, &seen))
-        next = evtchn_fifo_domain_reply(&state.domain, state.ledger, shared.words, seen);
+    evtchn_fifo_next next = evtchn_fifo_domain_raise(&s->domain, s->ledger, s->shared.words, p);
+    return evtchn_fifo_domain_run(&s->domain, s->ledger, s->shared.words, &s->shared, next);
+}
+
+static inline evtchn_fifo_next unmask(struct state *s, uint32_t p)
+{
+    evtchn_fifo_next next = evtchn_fifo_domain_unmask(&s->domain, s->ledger, s->shared.words, p);
+    return evtchn_fifo_domain_run(&s->domain, s->ledger, s->shared.words, &s->shared, next);
+}
+
+static inline evtchn_fifo_next service(struct state *s)
+{
+    return evtchn_fifo_guest_run(&s->guest, &s->shared, evtchn_fifo_guest_service(&s->guest));
+}
+#endif
+
+static inline void take_lock(struct state *s)
+{
+    while (__atomic_exchange_n(&s->lock, 1, __ATOMIC_ACQUIRE) != 0)
+        __builtin_ia32_pause();
+}
+
+static inline void give_lock(struct state *s) { __atomic_store_n(&s->lock, 0, __ATOMIC_RELEASE); }
+
+/* What tools/bench counts as whole calls: a function each, which no caller sees into. */
+#define WHOLE __attribute__((noinline)) evtchn_fifo_next
+WHOLE whole_raise(struct state *s, uint32_t p) { return raise(s, p); }
+WHOLE whole_unmask(struct state *s, uint32_t p) { return unmask(s, p); }
+WHOLE whole_service(struct state *s) { return service(s); }
+
+WHOLE whole_bind(struct state *s, uint32_t p)
+{
+    evtchn_fifo_next next = evtchn_fifo_domain_bind(&s->domain, s->ledger, s->shared.words, p);
+    return evtchn_fifo_domain_run(&s->domain, s->ledger, s->shared.words, &s->shared, next);
+}
+
+WHOLE whole_raise_locked(struct state *s, uint32_t p)
+{
+    evtchn_fifo_next next;
+    take_lock(s);
+    next = raise(s, p);
+    give_lock(s);
     return next;
 }
 
-static evtchn_fifo_next bind(uint32_t p)
+WHOLE whole_unmask_locked(struct state *s, uint32_t p)
 {
-    return to_answer(evtchn_fifo_domain_bind(&state.domain, state.ledger, shared.words, p));
+    evtchn_fifo_next next;
+    take_lock(s);
+    next = unmask(s, p);
+    give_lock(s);
+    return next;
 }
 
-static evtchn_fifo_next raise(uint32_t p)
+static evtchn_fifo_next serve_one(struct state *s, uint32_t p)
 {
-    return to_answer(evtchn_fifo_domain_raise(&state.domain, state.ledger, shared.words, p));
-}
-
-static evtchn_fifo_next unmask(uint32_t p)
-{
-    return to_answer(evtchn_fifo_domain_unmask(&state.domain, state.ledger, shared.words, p));
-}
-
-static evtchn_fifo_next service(uint32_t p)
-{
-    evtchn_fifo_next next = evtchn_fifo_guest_service(&state.guest);
-    uint32_t seen;
     (void)p;
-    while (evtchn_fifo_perform(&shared, next, &seen))
-        next = evtchn_fifo_guest_service_reply(&state.guest, seen);
-    return next;
+    return whole_service(s);
+}
+
+#define EIGHT 8u
+
+static evtchn_fifo_next serve_eight(struct state *s, uint32_t p)
+{
+    uint32_t k;
+    for (k = 1; k < EIGHT; k++)
+        serve_one(s, p);
+    return serve_one(s, p);
 }
 
 static void done(evtchn_fifo_next next)
@@ -79,48 +126,51 @@ static void done(evtchn_fifo_next next)
 
 /* ---- the state just before the call ---- */
 
-/* The other ports, numbered from 1, are bound to a queue and raised. */
+/* The other ports are numbered from 1. */
+static uint32_t other(uint32_t number) { return number < port ? number : number + 1; }
+
+/* They are bound to a queue and raised. */
 static void raise_others(uint32_t queue)
 {
-    uint32_t p, left = others;
-    for (p = 1; left > 0; p++) {
-        if (p == port)
-            continue;
-        done(bind(p));
-        done(evtchn_fifo_domain_set_priority(&state.domain, state.ledger, shared.words, p, queue));
-        done(raise(p));
-        left--;
+    uint32_t k;
+    for (k = 1; k <= others; k++) {
+        done(whole_bind(&state, other(k)));
+        done(evtchn_fifo_domain_set_priority(&state.domain, state.ledger, state.shared.words, other(k), queue));
+        done(whole_raise(&state, other(k)));
     }
 }
 
-static uint32_t last_other(void) { return others < port ? others : others + 1; }
-
 static void on_empty_queue(void)
 {
-    done(bind(port));
+    done(whole_bind(&state, port));
     raise_others(QUEUE + 1);
 }
 
 static void on_tail(void)
 {
-    done(bind(port));
+    done(whole_bind(&state, port));
     raise_others(QUEUE);
 }
 
 static void at_head(void)
 {
-    done(bind(port));
-    done(raise(port));
+    done(whole_bind(&state, port));
+    done(whole_raise(&state, port));
     raise_others(QUEUE);
+}
+
+static void quiet_and_masked(void)
+{
+    uint32_t seen;
+    on_empty_queue();
+    if (!evtchn_fifo_perform(&state.shared, evtchn_fifo_mask(port, state.shared.words), &seen))
+        fail("the mask is refused");
 }
 
 static void pending_and_masked(void)
 {
-    uint32_t seen;
-    on_empty_queue();
-    if (!evtchn_fifo_perform(&shared, evtchn_fifo_mask(port, shared.words), &seen))
-        fail("the mask is refused");
-    done(raise(port));
+    quiet_and_masked();
+    done(whole_raise(&state, port));
 }
 
 static void unbound(void) { raise_others(QUEUE + 1); }
@@ -135,33 +185,52 @@ static uint32_t record_word(const uint8_t *bytes, size_t at)
 }
 
 static uint32_t tail(void) { return record_word(state.domain.bytes, 8 + 4 * QUEUE); }
+static uint32_t local_head(void) { return record_word(state.guest.bytes, 4 * QUEUE); }
+static uint32_t local_ready(void) { return record_word(state.guest.bytes, 64); }
 
 static int is_linked(void) { return state.words[port] == 0xA0000000u && state.ledger[port] == 0x377u && tail() == port; }
 static int starts_queue(void) { return is_linked() && state.control[2 + QUEUE] == port && (state.control[0] & 1u << QUEUE); }
-static int ends_queue(void) { return is_linked() && state.words[last_other()] == (0xA0000000u | port); }
-static int is_bound(void) { return state.ledger[port] == 0x107u && state.words[port] == 0; }
+static int ends_queue(void) { return is_linked() && state.words[other(others)] == (0xA0000000u | port); }
+static int is_still_linked(void) { return state.words[port] == (0xA0000000u | other(1)) && tail() == other(others); }
+static int is_clear(void) { return state.words[port] == 0; }
+static int is_bound(void) { return state.ledger[port] == 0x107u && is_clear(); }
 static int is_unchanged(void) { return memcmp(&state, &before, sizeof state) == 0; }
+static int is_served(void) { return is_clear() && state.control[0] == 0 && local_head() == other(1) && local_ready() == 1u << QUEUE; }
 
-static int is_served(void)
+static int are_served(void)
 {
-    uint32_t second = port == 1 ? 2 : 1;
-    return state.words[port] == 0 && state.control[0] == 0 && record_word(state.guest.bytes, 4 * QUEUE) == second &&
-           record_word(state.guest.bytes, 64) == 1u << QUEUE;
+    int more = others >= EIGHT;
+    return is_clear() && state.words[other(EIGHT - 1)] == 0 && state.control[0] == 0 &&
+           local_head() == (more ? other(EIGHT) : 0) && local_ready() == (more ? 1u << QUEUE : 0);
 }
+
+/* the index of an answer */
+static uint32_t no_port(void) { return 0; }
+static uint32_t first_port(void) { return port; }
+static uint32_t eighth_port(void) { return other(EIGHT - 1); }
 
 static const struct call {
     const char *name;
     void (*prepare)(void);
-    evtchn_fifo_next (*run)(uint32_t port);
-    evtchn_fifo_next answer;
+    evtchn_fifo_next (*run)(struct state *s, uint32_t port);
+    uint32_t events, code, count; /* services, the answer of the last, and its count of accesses */
+    uint32_t (*index)(void);
     int (*is_left)(void);
 } calls[] = {
-    {"raise-empty", on_empty_queue, raise, {EVTCHN_FIFO_UPCALL_WANTED, 0, 4, 0}, starts_queue},
-    {"raise-tail", on_tail, raise, {EVTCHN_FIFO_DONE, 0, 4, 0}, ends_queue},
-    {"service", at_head, service, {EVTCHN_FIFO_HANDED_OVER, 0, 5, 0}, is_served},
-    {"unmask", pending_and_masked, unmask, {EVTCHN_FIFO_UPCALL_WANTED, 0, 4, 0}, starts_queue},
-    {"bind", unbound, bind, {EVTCHN_FIFO_DONE, 0, 1, 0}, is_bound},
-    {"refused", unbound, raise, {EVTCHN_FIFO_NOT_BOUND, 0, 0, 0}, is_unchanged},
+    {"raise-empty", on_empty_queue, whole_raise, 1, EVTCHN_FIFO_UPCALL_WANTED, 4, no_port, starts_queue},
+    {"raise-tail", on_tail, whole_raise, 1, EVTCHN_FIFO_DONE, 4, no_port, ends_queue},
+    {"raise-linked", at_head, whole_raise, 1, EVTCHN_FIFO_DONE, 1, no_port, is_still_linked},
+    {"unmask", pending_and_masked, whole_unmask, 1, EVTCHN_FIFO_UPCALL_WANTED, 4, no_port, starts_queue},
+    {"unmask-quiet", quiet_and_masked, whole_unmask, 1, EVTCHN_FIFO_DONE, 1, no_port, is_clear},
+    {"raise-empty-locked", on_empty_queue, whole_raise_locked, 1, EVTCHN_FIFO_UPCALL_WANTED, 4, no_port, starts_queue},
+    {"raise-tail-locked", on_tail, whole_raise_locked, 1, EVTCHN_FIFO_DONE, 4, no_port, ends_queue},
+    {"raise-linked-locked", at_head, whole_raise_locked, 1, EVTCHN_FIFO_DONE, 1, no_port, is_still_linked},
+    {"unmask-locked", pending_and_masked, whole_unmask_locked, 1, EVTCHN_FIFO_UPCALL_WANTED, 4, no_port, starts_queue},
+    {"unmask-quiet-locked", quiet_and_masked, whole_unmask_locked, 1, EVTCHN_FIFO_DONE, 1, no_port, is_clear},
+    {"service", at_head, serve_one, 1, EVTCHN_FIFO_HANDED_OVER, 5, first_port, is_served},
+    {"serve-eight", at_head, serve_eight, EIGHT, EVTCHN_FIFO_HANDED_OVER, 4, eighth_port, are_served},
+    {"bind", unbound, whole_bind, 1, EVTCHN_FIFO_DONE, 1, no_port, is_bound},
+    {"refused", unbound, whole_raise, 1, EVTCHN_FIFO_NOT_BOUND, 0, no_port, is_unchanged},
 };
 
 /* ---- repeats ---- */
@@ -175,8 +244,7 @@ static size_t change_count;
 
 static int is_right(const struct call *call, evtchn_fifo_next next)
 {
-    uint32_t index = call->answer.code == EVTCHN_FIFO_HANDED_OVER ? port : 0;
-    return next.code == call->answer.code && next.value == call->answer.value && next.index == index && next.old == 0;
+    return next.code == call->code && next.value == call->count && next.index == call->index() && next.old == 0;
 }
 
 /* The fields of the call under way: it has ended, and what an archive leaves there is not looked at again. */
@@ -193,7 +261,7 @@ static void find_changes(const struct call *call)
     const uint8_t *then = (const uint8_t *)&before, *now = (const uint8_t *)&state;
     size_t at;
     before = state;
-    if (!is_right(call, call->run(port)) || !call->is_left())
+    if (!is_right(call, call->run(&state, port)) || !call->is_left())
         fail("the call's answer, its count of accesses or the words that it leaves are wrong");
     for (at = 0; at < sizeof state; at += 4) {
         struct change change = {at, record_word(then, at), record_word(now, at)};
@@ -227,7 +295,7 @@ static double with_call(const struct call *call, long repeats)
     int right = 1;
     for (; repeats > 0; repeats--) {
         put_back();
-        right &= is_right(call, call->run(port));
+        right &= is_right(call, call->run(&state, port));
         for (c = 0; c < change_count; c++)
             right &= record_word((uint8_t *)&state, changes[c].at) == changes[c].after;
     }
@@ -262,7 +330,7 @@ __attribute__((noinline)) double measure(const struct call *call, long repeats)
         least = round == 0 || time < least ? time : least;
         least_without = round == 0 || time_without < least_without ? time_without : least_without;
     }
-    return (least - least_without) / (double)(repeats / ROUNDS);
+    return (least - least_without) / (double)(repeats / ROUNDS) / call->events;
 }
 
 /* ---- arguments ---- */
@@ -291,16 +359,18 @@ static const struct call *named(const char *name)
 static void begin(void)
 {
     uint32_t k;
-    shared.words = page_count * EVTCHN_FIFO_PAGE_WORDS;
+    state.shared.control = state.control;
+    state.shared.pages = state.pages;
+    state.shared.words = page_count * EVTCHN_FIFO_PAGE_WORDS;
     evtchn_fifo_domain_fresh(&state.domain);
     evtchn_fifo_guest_fresh(&state.guest);
-    evtchn_fifo_ledger_fresh(state.ledger, shared.words);
+    evtchn_fifo_ledger_fresh(state.ledger, state.shared.words);
     done(evtchn_fifo_domain_init_control(&state.domain, 0, 0, 1, 0));
     for (k = 0; k < page_count; k++) {
-        pages[k] = state.words + k * EVTCHN_FIFO_PAGE_WORDS;
+        state.pages[k] = state.words + k * EVTCHN_FIFO_PAGE_WORDS;
         done(evtchn_fifo_domain_expand_array(&state.domain, 0, 1));
     }
-    done(evtchn_fifo_guest_tell(&state.guest, shared.words));
+    done(evtchn_fifo_guest_tell(&state.guest, state.shared.words));
 }
 
 int main(int count, char **words)
@@ -311,10 +381,11 @@ int main(int count, char **words)
         fail("arguments: CALL REPEATS [PAGES PORT OTHERS]");
     call = named(words[1]);
     repeats = number(words[2], ROUNDS, 1000000000);
+    others = call->events > 1 ? call->events - 1 : 1;
     if (count == 6) {
         page_count = (uint32_t)number(words[3], 1, EVTCHN_FIFO_PORTS / EVTCHN_FIFO_PAGE_WORDS);
         port = (uint32_t)number(words[4], 1, (long)(page_count * EVTCHN_FIFO_PAGE_WORDS) - 1);
-        others = (uint32_t)number(words[5], 1, (long)(page_count * EVTCHN_FIFO_PAGE_WORDS) - 2);
+        others = (uint32_t)number(words[5], (long)others, (long)(page_count * EVTCHN_FIFO_PAGE_WORDS) - 2);
     }
     begin();
     call->prepare();

@@ -462,6 +462,7 @@ static inline evtchn_fifo_next take(guest_record *guest, uint32_t queue, uint32_
         return end_service(guest, EVTCHN_FIFO_BAD_INDEX, 0);
     }
     guest->port = port;
+    guest->queue = queue;
     serve_on(guest, G2);
     return name_g2(port);
 }
@@ -473,10 +474,10 @@ static inline evtchn_fifo_next g0_reply(guest_record *guest, uint32_t seen)
     if (ready == 0)
         return end_service(guest, EVTCHN_FIFO_NOTHING_READY, 0);
     queue = (uint32_t)__builtin_ctz(ready);
-    guest->queue = queue;
     head = guest->heads[queue];
     if (head != 0)
         return take(guest, queue, head);
+    guest->queue = queue;
     serve_on(guest, G1);
     return name_g1(queue);
 }

@@ -7,9 +7,12 @@ use Rattle.evtchn_fifo.proofs.encoded.encoded_answer.Tie as tie
 code-of-requires : tie.Need-code-of-requires
 code-of-requires c κs = search needs
 
+packed-requires : tie.Need-packed-requires
+packed-requires c κs = search needs
+
 returns : tie.Need-returns
 unfolding encodedAnswer
-returns c = simp (c .code-of .ensures)
+returns c = simp (c .packed .ensures, c .before .code-of .ensures)
 
 pub encoded-answer-spec : {M : Type 1} → statement M
-encoded-answer-spec = tie.close (tie.spec code-of-requires returns)
+encoded-answer-spec = tie.close (tie.spec code-of-requires packed-requires returns)

@@ -10,12 +10,15 @@ place-code-requires c κs = search needs
 place-index-requires : tie.Need-place-index-requires
 place-index-requires c κs = search needs
 
-add-t7 : tie.Need-add-t7
-add-t7 c = search needs
+add-packed : tie.Need-add-packed
+add-packed c = search needs
+
+packed-requires : tie.Need-packed-requires
+packed-requires c κs = search needs
 
 returns : tie.Need-returns
 unfolding encodedPlace
-returns c = simp (c .before .place-code .ensures .0, c .place-index .ensures)
+returns c = simp (c .packed .ensures, c .before .before .place-code .ensures .0, c .before .place-index .ensures)
 
 pub encoded-place-spec : {M : Type 1} → statement M
-encoded-place-spec = tie.close (tie.spec place-code-requires place-index-requires add-t7 returns)
+encoded-place-spec = tie.close (tie.spec place-code-requires place-index-requires add-packed packed-requires returns)

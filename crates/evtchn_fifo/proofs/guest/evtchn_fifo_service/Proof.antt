@@ -1,7 +1,7 @@
 -- `evtchn_fifo::guest::evtchn_fifo_service` meets its contract. Assumes nothing.
-use borrow.Author.Needs.{needs}
 use Rattle.evtchn_fifo.specs.Guest.{serviceBytes}
-use Rattle.evtchn_fifo.proofs.GuestLaws.{service-begun}
+use Rattle.calls.specs.Guest.{serviceStart, guestNext, isServing, guestDue}
+use borrow.Author.Needs.{needs}
 use Rattle.evtchn_fifo.proofs.guest.evtchn_fifo_service.Statement.{statement}
 use Rattle.evtchn_fifo.proofs.guest.evtchn_fifo_service.Tie as tie
 
@@ -15,40 +15,31 @@ returns c = simp (c .before .if1 .taken, c .too-short .ensures)
 service-at-requires : tie.Need-service-at-requires
 service-at-requires c κs = search needs
 
-without-heads-requires : tie.Need-without-heads-requires
-without-heads-requires c κs = search needs
-
-service-requires : tie.Need-service-requires
-service-requires c κs = search needs
-
-enum-known-next : tie.Need-enum-known-next
-enum-known-next c = search needs
+is-serving-requires : tie.Need-is-serving-requires
+is-serving-requires c κs = search needs
 
 encoded-answer-requires : tie.Need-encoded-answer-requires
 encoded-answer-requires c κs = search needs
-
-enum-known-next-2 : tie.Need-enum-known-next-2
-enum-known-next-2 c = search needs
-
-service-next-at-requires : tie.Need-service-next-at-requires
-service-next-at-requires c κs = search needs
-
-put-service-requires : tie.Need-put-service-requires
-put-service-requires c κs = search needs
 
 same-length : tie.Need-same-length
 same-length c = search needs
 
 returns-2 : tie.Need-returns-2
-unfolding serviceBytes
-returns-2 c = simp (← (c .encoded-answer .ensures), c .before .before .next .given .1, c .before .before .before .match .keys1, ← (c .before .before .before .before .before .before .service .ensures), ← (c .before .before .before .before .before .before .before .without-heads .ensures), ← (c .before .before .before .before .before .before .before .before .service-at .ensures), c .before .before .before .before .before .before .before .before .before .before .if1 .left)
+unfolding serviceBytes serviceStart
+returns-2 c = simp (c .before .before .before .before .before .if1 .left, ← (c .before .before .before .service-at .ensures), ← (c .before .before .is-serving .ensures), c .before .if2 .taken, c .encoded-answer .ensures)
+
+guest-call-at-requires : tie.Need-guest-call-at-requires
+guest-call-at-requires c κs = search needs
+
+goes-on-requires : tie.Need-goes-on-requires
+goes-on-requires c κs = search needs
 
 same-length-2 : tie.Need-same-length-2
 same-length-2 c = search needs
 
 returns-3 : tie.Need-returns-3
-unfolding serviceBytes
-returns-3 c = simp (c .before .before .put-service .ensures, c .before .before .before .before .service-next-at .ensures, service-begun _ _ _ _ (c .before .before .before .before .before .before .before .before .before .before .service .ensures) (c .before .before .before .before .before .before .next2 .given .1), c .before .before .before .before .before .before .next2 .given .1, c .before .before .before .before .before .before .before .match .keys2, ← (c .before .before .before .before .before .before .before .before .before .before .service .ensures), ← (c .before .before .before .before .before .before .before .before .before .before .before .without-heads .ensures), ← (c .before .before .before .before .before .before .before .before .before .before .before .before .service-at .ensures), c .before .before .before .before .before .before .before .before .before .before .before .before .before .before .if1 .left)
+unfolding serviceBytes serviceStart guestNext isServing guestDue
+returns-3 c = simp (c .before .before .before .before .before .before .before .before .before .if1 .left, ← (c .before .before .before .before .before .before .before .service-at .ensures), ← (c .before .before .before .before .before .before .is-serving .ensures), c .before .before .before .before .before .if2 .left, c .before .before .goes-on .ensures, c .before .before .before .before .guest-call-at .ensures)
 
 pub evtchn-fifo-service-spec : {M : Type 1} → statement M
 evtchn-fifo-service-spec =
@@ -57,14 +48,11 @@ evtchn-fifo-service-spec =
     too-short-requires
     returns
     service-at-requires
-    without-heads-requires
-    service-requires
-    enum-known-next
+    is-serving-requires
     encoded-answer-requires
-    enum-known-next-2
-    service-next-at-requires
-    put-service-requires
     same-length
     returns-2
+    guest-call-at-requires
+    goes-on-requires
     same-length-2
     returns-3)

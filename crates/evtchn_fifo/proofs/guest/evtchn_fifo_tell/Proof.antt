@@ -1,7 +1,10 @@
 -- `evtchn_fifo::guest::evtchn_fifo_tell` meets its contract. Assumes nothing.
-use native.Mathlib.Omega.{arith}
-use borrow.Author.Tests.{ltb-true, ltb-false}
+use Rattle.evtchn_fifo.proofs.NumberLaws.{put-same}
 use Rattle.evtchn_fifo.specs.Guest.{tellBytes}
+use Rattle.evtchn_fifo.specs.Encoded.{encodedNext}
+use Rattle.calls.specs.Guest.{tellOf}
+use native.Mathlib.Omega.{arith}
+use borrow.Author.Tests.{ltb-false}
 use borrow.Author.Needs.{needs}
 use Rattle.evtchn_fifo.proofs.guest.evtchn_fifo_tell.Statement.{statement}
 use Rattle.evtchn_fifo.proofs.guest.evtchn_fifo_tell.Tie as tie
@@ -17,29 +20,30 @@ narrowed-requires : tie.Need-narrowed-requires
 narrowed-requires c κs = search needs
 
 u32-at-requires : tie.Need-u32-at-requires
-u32-at-requires c κs = omega (arith, ltb-true, ltb-false)
-
-guest-idle-requires : tie.Need-guest-idle-requires
-guest-idle-requires c κs = search needs
-
-without-heads-requires : tie.Need-without-heads-requires
-without-heads-requires c κs = search needs
-
-tell-requires : tie.Need-tell-requires
-tell-requires c κs = search needs
+u32-at-requires c κs = omega (arith, ltb-false)
 
 put-u32-requires : tie.Need-put-u32-requires
-put-u32-requires c κs = omega (arith, ltb-true, ltb-false)
+put-u32-requires c κs = omega (arith, ltb-false)
 
-encoded-next-requires : tie.Need-encoded-next-requires
-encoded-next-requires c κs = search needs
+encoded-answer-requires : tie.Need-encoded-answer-requires
+encoded-answer-requires c κs = search needs
 
 same-length : tie.Need-same-length
 same-length c = search needs
 
 returns-2 : tie.Need-returns-2
-unfolding tellBytes
-returns-2 c = simp (c .before .before .before .before .before .before .before .before .before .before .before .before .if1 .left, c .encoded-next .ensures, c .before .before .before .put-u32 .ensures, c .before .before .before .before .before .before .tell .ensures, c .before .before .before .before .before .before .before .without-heads .ensures, c .before .before .before .before .before .before .before .before .guest-idle .ensures, c .before .before .before .before .before .before .before .before .before .u32-at .ensures, c .before .before .before .before .before .before .before .before .before .before .before .narrowed .ensures)
+unfolding tellBytes tellOf encodedNext
+returns-2 c = simp (c .before .before .before .before .before .before .before .before .before .if1 .left, ← (c .before .before .before .before .before .before .before .before .narrowed .ensures), ← (c .before .before .before .before .before .before .u32-at .ensures), c .before .before .before .before .before .if2 .taken, c .encoded-answer .ensures, c .before .before .before .put-u32 .ensures)
+
+encoded-answer-requires-2 : tie.Need-encoded-answer-requires-2
+encoded-answer-requires-2 c κs = search needs
+
+same-length-2 : tie.Need-same-length-2
+same-length-2 c = search needs
+
+returns-3 : tie.Need-returns-3
+unfolding tellBytes tellOf encodedNext
+returns-3 c = simp (c .before .before .before .before .before .if1 .left, ← (c .before .before .before .before .narrowed .ensures), ← (c .before .before .u32-at .ensures), c .before .if2 .left, c .encoded-answer2 .ensures, simp (← (c .before .before .u32-at .ensures)) at (put-same 3 (c .before .before .before .before .before .before .before .args .guest .now) 68 (λ j. c .before .before .before .before .before .before .slice-known .given j .fits)))
 
 pub evtchn-fifo-tell-spec : {M : Type 1} → statement M
 evtchn-fifo-tell-spec =
@@ -49,10 +53,10 @@ evtchn-fifo-tell-spec =
     returns
     narrowed-requires
     u32-at-requires
-    guest-idle-requires
-    without-heads-requires
-    tell-requires
     put-u32-requires
-    encoded-next-requires
+    encoded-answer-requires
     same-length
-    returns-2)
+    returns-2
+    encoded-answer-requires-2
+    same-length-2
+    returns-3)
