@@ -99,8 +99,8 @@ EVTCHN_FIFO_INLINE int evtchn_fifo_perform_head(const evtchn_fifo_shared *shared
 }
 
 /*
- * The accesses that the library names for each side, by their whole code: two or three comparisons tell kind and place. Of all
- * accesses in one switch compilers make a table, which costs more, and which a hypervisor may not want.
+ * The accesses that the library names for each side, by their whole code. gcc tells them apart by two or three comparisons, where it
+ * makes a table of a switch over all accesses, which costs more. clang makes a table of these too, unless -fno-jump-tables forbids it.
  */
 EVTCHN_FIFO_INLINE int evtchn_fifo_perform_for_domain(const evtchn_fifo_shared *shared, evtchn_fifo_halves next, uint32_t *seen)
 {
