@@ -20,7 +20,7 @@ use crate::driver::run::fresh;
 use crate::driver::run::is_busy;
 use crate::driver::run::raising;
 use crate::driver::run::serving;
-use machine::line::Line;
+use log::line::Line;
 use machine::types::Sides;
 
 fn take(sides: Sides, ledger: &mut [u16], words: &mut [u32], block: &mut [u32], plan: Plan) -> Run {

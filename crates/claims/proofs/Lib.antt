@@ -5,4 +5,8 @@ pub mod Tails
 pub mod GuestReach
 pub mod Refusals
 pub mod Entries
+pub mod NumberLaws
+pub mod HypervisorNumbers
+pub mod GuestNumbers
+pub mod Numbers
 pub mod LongestCalls

@@ -4,3 +4,4 @@ pub mod FurtherCases
 pub mod Reach
 pub mod Tails
 pub mod Refusals
+pub mod Numbers

@@ -4,11 +4,16 @@
 
 #include "domain.h"
 
+const char *const conduct_names[CONDUCTS] = {"plain", "masking", "reopening", "hostile"};
+
 /* of both pages, with their first and last words */
 const uint32_t ports[PORTS] = {1, 2, 3, 5, 9, 100, 511, 512, 1022, 1023, 1024, 1025, 1500, 2000, 2046, 2047};
 
 /* A side gives way after so many accesses, so that the other comes between two of a call even on one processor. */
 static const uint32_t gives_way[CONDUCTS] = {61, 61, 61, 5};
+
+/* The frames that a replay supposes of a domain. */
+#define FRAMES 1024u
 
 typedef enum side { HYPERVISOR, GUEST } side;
 
@@ -60,25 +65,32 @@ static void count_answer(tally *t, evtchn_fifo_next next, uint32_t made)
     t->refused += is_unexpected(next.code);
 }
 
+/* An access of a side's call, and its reply, to which next comes; false where it is not mapped. */
+static bool step(domain *d, side side, evtchn_fifo_next *next)
+{
+    evtchn_fifo_next access = *next;
+    uint32_t seen;
+    if (side == GUEST)
+        return evtchn_fifo_trace_guest_step(d->trace, &d->guest_record, &d->shared, next, &seen);
+    if (!evtchn_fifo_trace_domain_step(d->trace, &d->record, d->ledger, WORDS, &d->shared, next, &seen))
+        return false;
+    count_access(d, access, seen);
+    return true;
+}
+
 /* A call of a side, from its start to its answer. An access outside what is mapped is counted and not made. */
 static evtchn_fifo_next run(domain *d, side side, evtchn_fifo_next next)
 {
     tally *t = side == HYPERVISOR ? &d->hypervisor : &d->guest;
-    uint32_t made = 0, seen;
+    uint32_t made = 0;
     while (evtchn_fifo_is_access(next)) {
-        if (!evtchn_fifo_perform(&d->shared, next, &seen)) {
+        if (!step(d, side, &next)) {
             t->outside++;
             return next;
         }
         made++;
         if (++t->accesses % gives_way[d->conduct] == 0)
             sched_yield();
-        if (side == HYPERVISOR) {
-            count_access(d, next, seen);
-            next = evtchn_fifo_domain_reply(&d->record, d->ledger, WORDS, seen);
-        } else {
-            next = evtchn_fifo_guest_service_reply(&d->guest_record, seen);
-        }
     }
     count_answer(t, next, made);
     return next;
@@ -97,36 +109,36 @@ static uint32_t finish(domain *d, evtchn_fifo_next next)
 uint32_t domain_bind(domain *d, uint32_t port)
 {
     pthread_mutex_lock(&d->lock);
-    return finish(d, evtchn_fifo_domain_bind(&d->record, d->ledger, WORDS, port));
+    return finish(d, evtchn_fifo_trace_bind(d->trace, &d->record, d->ledger, WORDS, port));
 }
 
 uint32_t domain_close(domain *d, uint32_t port)
 {
     pthread_mutex_lock(&d->lock);
-    return finish(d, evtchn_fifo_domain_close(&d->record, d->ledger, WORDS, port));
+    return finish(d, evtchn_fifo_trace_close(d->trace, &d->record, d->ledger, WORDS, port));
 }
 
 uint32_t domain_set_priority(domain *d, uint32_t port, uint32_t priority)
 {
     pthread_mutex_lock(&d->lock);
-    return finish(d, evtchn_fifo_domain_set_priority(&d->record, d->ledger, WORDS, port, priority));
+    return finish(d, evtchn_fifo_trace_set_priority(d->trace, &d->record, d->ledger, WORDS, port, priority));
 }
 
 uint32_t domain_raise(domain *d, uint32_t port)
 {
     pthread_mutex_lock(&d->lock);
-    return finish(d, evtchn_fifo_domain_raise(&d->record, d->ledger, WORDS, port));
+    return finish(d, evtchn_fifo_trace_raise(d->trace, &d->record, d->ledger, WORDS, port));
 }
 
 uint32_t domain_unmask(domain *d, uint32_t port)
 {
     pthread_mutex_lock(&d->lock);
-    return finish(d, evtchn_fifo_domain_unmask(&d->record, d->ledger, WORDS, port));
+    return finish(d, evtchn_fifo_trace_unmask(d->trace, &d->record, d->ledger, WORDS, port));
 }
 
 uint32_t domain_service(domain *d, uint32_t *port)
 {
-    evtchn_fifo_next next = run(d, GUEST, evtchn_fifo_guest_service(&d->guest_record));
+    evtchn_fifo_next next = run(d, GUEST, evtchn_fifo_trace_service(d->trace, &d->guest_record));
     *port = next.index;
     if (next.code == EVTCHN_FIFO_HANDED_OVER) {
         d->accounts[next.index].handed_over++;
@@ -137,8 +149,7 @@ uint32_t domain_service(domain *d, uint32_t *port)
 
 void domain_mask(domain *d, uint32_t port)
 {
-    uint32_t seen;
-    if (!evtchn_fifo_perform(&d->shared, evtchn_fifo_mask(port, WORDS), &seen))
+    if (evtchn_fifo_trace_mask(d->trace, &d->shared, port, WORDS).code != EVTCHN_FIFO_DONE)
         d->guest.outside++;
 }
 
@@ -157,16 +168,18 @@ static void fresh(domain *d)
     evtchn_fifo_ledger_fresh(d->ledger, WORDS);
 }
 
-bool domain_begin(domain *d, conduct conduct, uint64_t seed)
+bool domain_begin(domain *d, conduct conduct, uint64_t seed, evtchn_fifo_trace *trace)
 {
     uint32_t k, refusals;
     fresh(d);
     d->conduct = conduct;
     d->seed = seed;
-    refusals = evtchn_fifo_domain_init_control(&d->record, 0, 0, 1, 0).code;
-    for (k = 0; k < PAGES; k++)
-        refusals |= evtchn_fifo_domain_expand_array(&d->record, 0, 1).code;
-    evtchn_fifo_guest_tell(&d->guest_record, WORDS);
+    d->trace = trace;
+    refusals = evtchn_fifo_trace_init_control(trace, &d->record, 0, 0, FRAMES, 0).code;
+    for (k = 1; k <= PAGES; k++) {
+        refusals |= evtchn_fifo_trace_expand_array(trace, &d->record, k, FRAMES).code;
+        evtchn_fifo_guest_tell(&d->guest_record, k * EVTCHN_FIFO_PAGE_WORDS);
+    }
     for (k = 0; k < PORTS; k++)
         refusals |= domain_bind(d, ports[k]) | domain_set_priority(d, ports[k], k % 4 * 5);
     return refusals == EVTCHN_FIFO_DONE;

@@ -7,7 +7,7 @@
 #include <stdatomic.h>
 #include <stdbool.h>
 
-#include "evtchn_fifo_atomic.h"
+#include "evtchn_fifo_trace.h"
 
 #define PAGES 2u
 #define WORDS (PAGES * EVTCHN_FIFO_PAGE_WORDS)
@@ -25,6 +25,8 @@ typedef enum conduct {
     HOSTILE,   /* services, and writes random words all the time */
     CONDUCTS
 } conduct;
+
+extern const char *const conduct_names[CONDUCTS];
 
 /* One port's events; the first three are counted by the hypervisor, the last by the guest. */
 typedef struct port_account {
@@ -55,6 +57,7 @@ typedef struct upcall {
 typedef struct domain {
     conduct conduct;
     uint64_t seed;
+    evtchn_fifo_trace *trace; /* takes the log's lines; NULL: there is none */
 
     pthread_mutex_t lock; /* record and ledger, from a call's start to its answer */
     evtchn_fifo_domain record;
@@ -78,7 +81,7 @@ typedef struct domain {
 extern const uint32_t ports[PORTS];
 
 /* A fresh domain with two pages, told to its guest, and its ports bound on several priorities; false where a call refuses. */
-bool domain_begin(domain *d, conduct conduct, uint64_t seed);
+bool domain_begin(domain *d, conduct conduct, uint64_t seed, evtchn_fifo_trace *trace);
 
 /* The hypervisor's calls, each from its start to its answer with the lock held: the answer's number. */
 uint32_t domain_bind(domain *d, uint32_t port);

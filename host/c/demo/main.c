@@ -1,14 +1,18 @@
 /*
- * demo SECONDS DOMAINS: one host with many domains, in threads over real atomics. Prints the log of C1, runs for some seconds, and
- * ends with a table and with the claims that it checked. Exit status 0 if all hold, 1 if one fails, 2 if it can't run.
+ * demo SECONDS DOMAINS [GUEST FILE]: one host with many domains, in threads over real atomics. Prints the log of C1, runs for some
+ * seconds, and ends with a table and with the claims that it checked. Exit status 0 if all hold, 1 if one fails, 2 if it can't run.
+ * With GUEST (plain, masking, reopening or hostile) the log of the first domain with such a guest is written to FILE.
  */
 #define _POSIX_C_SOURCE 200809L
+#include <errno.h>
+#include <inttypes.h>
 #include <stdio.h>
 #include <stdlib.h>
 #include <time.h>
 #include <unistd.h>
 
 #include "../world.h"
+#include "recording.h"
 #include "report.h"
 
 #define HYPERVISOR_THREADS 4u
@@ -24,6 +28,12 @@ static const char c1[] = "accesses\t1\n"
 static void fail(const char *text)
 {
     fprintf(stderr, "demo: %s\n", text);
+    exit(2);
+}
+
+static void fail_at(const char *file, const char *text)
+{
+    fprintf(stderr, "demo: %s: %s\n", file, text);
     exit(2);
 }
 
@@ -123,17 +133,38 @@ static void end_all(crew *c, host *h)
 }
 
 /* Of five domains two are plain, and one is of each other conduct. */
-static void begin_domains(host *h, uint32_t count)
+static const conduct conducts[] = {PLAIN, MASKING, REOPENING, HOSTILE, PLAIN};
+
+/* What the arguments say. */
+typedef struct settings {
+    unsigned seconds, count;
+    const char *file;  /* of the log; NULL: none is written */
+    uint32_t recorded; /* the domain whose log it is */
+} settings;
+
+static void begin_domains(host *h, const settings *s, recording *r)
 {
-    static const conduct conducts[] = {PLAIN, MASKING, REOPENING, HOSTILE, PLAIN};
     uint32_t k;
-    h->count = count;
-    h->domains = calloc(count, sizeof *h->domains);
+    h->count = s->count;
+    h->domains = calloc(s->count, sizeof *h->domains);
     if (h->domains == NULL)
         fail("no memory for the domains");
-    for (k = 0; k < count; k++)
-        if (!domain_begin(&h->domains[k], conducts[k % 5], k + 1))
+    if (s->file != NULL && !recording_begin(r, s->file))
+        fail_at(s->file, strerror(errno));
+    for (k = 0; k < s->count; k++) {
+        bool recorded = s->file != NULL && k == s->recorded;
+        if (!domain_begin(&h->domains[k], conducts[k % 5], k + 1, recorded ? &r->trace : NULL))
             fail("a domain's first calls were refused");
+    }
+}
+
+static void end_recording(const settings *s, recording *r)
+{
+    if (s->file == NULL)
+        return;
+    if (!recording_end(r))
+        fail_at(s->file, "the log could not be written whole");
+    printf("%" PRIu64 " lines of the log of a %s guest's domain are in %s.\n\n", r->lines, conduct_names[conducts[s->recorded]], s->file);
 }
 
 static unsigned number(const char *text, const char *name, unsigned most)
@@ -147,25 +178,47 @@ static unsigned number(const char *text, const char *name, unsigned most)
     return (unsigned)value;
 }
 
+/* The first of the domains whose guest is of that name. */
+static uint32_t first_with(const char *guest, unsigned count)
+{
+    uint32_t k;
+    for (k = 0; k < count && k < 5; k++)
+        if (strcmp(conduct_names[conducts[k]], guest) == 0)
+            return k;
+    fprintf(stderr, "demo: of %u domains none has a guest that is '%s'; of four there are plain, masking, reopening and hostile\n", count, guest);
+    exit(2);
+}
+
+static settings read_arguments(int words, char **word)
+{
+    settings s = {0, 0, NULL, 0};
+    if (words != 3 && words != 5)
+        fail("use: demo SECONDS DOMAINS [GUEST FILE]");
+    s.seconds = number(word[1], "SECONDS", 3600);
+    s.count = number(word[2], "DOMAINS", MOST_DOMAINS);
+    if (words == 5) {
+        s.recorded = first_with(word[3], s.count);
+        s.file = word[4];
+    }
+    return s;
+}
+
 int main(int words, char **word)
 {
     static crew c;
     static host h;
-    unsigned seconds, count;
+    static recording r;
+    settings s = read_arguments(words, word);
     double begun, elapsed;
-    bool holds;
-    if (words != 3)
-        fail("use: demo SECONDS DOMAINS");
-    seconds = number(word[1], "SECONDS", 3600);
-    count = number(word[2], "DOMAINS", MOST_DOMAINS);
-    holds = show_c1();
-    begin_domains(&h, count);
-    printf("%u domains, %u threads of the hypervisor's, a thread for each guest, one more for each hostile guest:\n\n", count, HYPERVISOR_THREADS);
+    bool holds = show_c1();
+    begin_domains(&h, &s, &r);
+    printf("%u domains, %u threads of the hypervisor's, a thread for each guest, one more for each hostile guest:\n\n", s.count, HYPERVISOR_THREADS);
     begun = now();
     start_all(&c, &h);
-    show_progress(&h, begun, seconds);
+    show_progress(&h, begun, s.seconds);
     elapsed = now() - begun;
     end_all(&c, &h);
+    end_recording(&s, &r);
     report_table(&h, elapsed);
     printf("\n%-6s %-11s the log of C1 is document 01's\n", holds ? "holds" : "FAILS", "all");
     holds = report_claims(&h) && holds;

@@ -16,8 +16,6 @@ typedef struct group {
     uint64_t raises, hand_overs, coalesced, closed, lost, doubled, abandoned;
 } group;
 
-static const char *const names[CONDUCTS] = {"plain", "masking", "reopening", "hostile"};
-
 static uint32_t word_of(const domain *d, uint32_t port)
 {
     return d->array[port / EVTCHN_FIFO_PAGE_WORDS][port % EVTCHN_FIFO_PAGE_WORDS];
@@ -99,7 +97,7 @@ void report_table(const host *h, double seconds)
     for (c = 0; c < CONDUCTS; c++) {
         group g = sum(h, (conduct)c);
         if (g.domains > 0)
-            print_group(names[c], &g, c != HOSTILE, seconds);
+            print_group(conduct_names[c], &g, c != HOSTILE, seconds);
     }
     printf("\nRaises are hand-overs, coalesced and closed (a close found the event pending). What a hostile guest loses is its own.\n");
 }

@@ -2,16 +2,16 @@
 use crate::driver::run::due;
 use calls::types::Answer;
 use calls::types::Next;
-use machine::line::Line;
-use machine::line::Written;
-use machine::log::Logged;
+use log::event::Logged;
+use log::line::Line;
+use log::line::Written;
 use machine::types::Event;
 use machine::types::Side;
 use machine::types::Sides;
 use machine::types::Step;
 
 fn write_line(out: &mut [u8], line: Line) {
-    let written = machine::line::write_line(out, line);
+    let written = log::line::write_line(out, line);
     let Written::Bytes(len) = written else {
         return;
     };
@@ -27,7 +27,7 @@ pub(crate) fn print_line(line: Line) {
 }
 
 fn print_event(event: Event) {
-    let logged = machine::log::line_of(event);
+    let logged = log::event::line_of(event);
     match logged {
         Logged::None => {}
         Logged::Line(line) => print_line(line),
@@ -38,7 +38,7 @@ fn print_due(sides: Sides, side: Side, word: u32) {
     match due(sides, side) {
         Next::Answer(_, _) => {}
         Next::Access(access) => {
-            let line = machine::line::access_line(side, access, word);
+            let line = log::event::access_line(side, access, word);
             print_line(line);
         }
     }

@@ -1,7 +1,6 @@
 //! A run of the model with what it prints.
 
-use crate::model::machine::log;
-use crate::model::{Entry, Event, Model, Side, Step, World};
+use crate::model::{log, Entry, Event, Model, Side, Step, World};
 
 /// Most accesses of a call.
 const MOST: usize = 9;
@@ -35,7 +34,7 @@ impl Run {
     /// One step.
     pub fn step(&mut self, step: Step) -> &mut Self {
         let stepped = self.world.step(step);
-        self.events.extend(stepped.events);
+        self.events.extend_from_slice(&stepped.events);
         self
     }
 

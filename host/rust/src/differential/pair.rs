@@ -7,8 +7,8 @@ use super::lent::{edge, handed_back, ledger_bytes, uses, Lent, Uses};
 use crate::boundary::records::{self, DOMAIN_SIZE, GUEST_SIZE};
 use crate::boundary::{calls, ledger, Encoded};
 use crate::guarded::Edge;
-use crate::model::machine::{log, Stepped};
-use crate::model::{Answer, Domain, Entry, Event, Guest, Model, Next, Side, Step, World};
+use crate::model::machine::{Events, Stepped};
+use crate::model::{log, Answer, Domain, Entry, Event, Guest, Model, Next, Side, Step, World};
 use crate::random::Random;
 
 /// What a world held before a step, as far as the step can look at it.
@@ -176,7 +176,7 @@ impl Pair {
         self.compare_unchanged()?;
         self.compare_ledger()?;
         let next = Next::Answer(Answer::Done, 0);
-        let events = Vec::new();
+        let events = Events::NONE;
         Ok(Stepped { next, events })
     }
 

@@ -2,7 +2,8 @@
 //!
 //! - words and records: `kinds`, `word`, `entry`, `access`, `answer`, `domain`, `guest`, `flat`
 //! - rules: `starts` and `replies` (hypervisor), `service` (guest), `decisions`, `seeded`
-//! - `machine`: both sides' steps over lent memory, and the access log
+//! - `machine`: both sides' steps over lent memory; `log`: lines of the access log, both ways;
+//!   `replay`: a log played back
 //! - `claims`: demand 3's four parts and the account of PENDING
 //! - `histories`, `arbitrary`: random rule-keeping steps, random records
 
@@ -17,7 +18,9 @@ pub mod flat;
 pub mod guest;
 pub mod histories;
 pub mod kinds;
+pub mod log;
 pub mod machine;
+pub mod replay;
 mod replies;
 mod seeded;
 mod service;

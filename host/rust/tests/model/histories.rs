@@ -3,6 +3,7 @@
 
 use evtchn_fifo_host::model::claims::Judge;
 use evtchn_fifo_host::model::histories::Honest;
+use evtchn_fifo_host::model::machine::Events;
 use evtchn_fifo_host::model::{Event, Model, Step, World};
 use evtchn_fifo_host::random::Random;
 use std::collections::BTreeMap;
@@ -21,7 +22,7 @@ impl Judged {
     }
 
     /// One step, then what the judge says of it.
-    pub fn step(&mut self, step: Step) -> Result<Vec<Event>, String> {
+    pub fn step(&mut self, step: Step) -> Result<Events, String> {
         let stepped = self.world.step(step);
         self.judge.after(&self.world, &stepped)?;
         Ok(stepped.events)
@@ -44,7 +45,7 @@ fn history(seed: u64, length: usize, met: &mut BTreeMap<String, u64>) -> Result<
         let step = next.unwrap_or_else(|| honest.step(&mut random, &judged.world));
         let events = judged.step(step);
         let events = events.map_err(|text| format!("seed {seed} step {at} {step:?}: {text}"))?;
-        for event in events {
+        for event in events.iter() {
             if let Event::Answered(side, answer, count) = event {
                 *met.entry(format!("{side:?} {:02} n{count}", answer.number()))
                     .or_default() += 1;

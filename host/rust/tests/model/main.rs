@@ -1,4 +1,4 @@
-//! Tests of the model: cases, readings, edges, random histories, seeded faults.
+//! Tests of the model: cases, readings, edges, random histories, seeded faults, logs played back.
 
 #[macro_use]
 mod support;
@@ -11,9 +11,12 @@ mod exhaustive;
 mod faults;
 mod histories;
 mod hostile;
+mod log_lines;
 mod readings_counts;
 mod readings_guest;
 mod readings_records;
 mod readings_refusals;
 mod readings_steps;
 mod refusal_order;
+mod replay;
+mod replay_corpus;

@@ -1,7 +1,6 @@
 //! What the cases share: a run with its history, and comparisons that give an error text.
 
-use evtchn_fifo_host::model::machine::log;
-use evtchn_fifo_host::model::{Entry, Event, Faults, Model, Next, Side, Step, World};
+use evtchn_fifo_host::model::{log, Entry, Event, Faults, Model, Next, Side, Step, World};
 
 pub use evtchn_fifo_host::model::Side::{Guest as G, Hypervisor as X};
 
@@ -78,7 +77,7 @@ impl Run {
     /// One step.
     pub fn step(&mut self, step: Step) -> Next {
         let stepped = self.world.step(step);
-        self.events.extend(stepped.events);
+        self.events.extend_from_slice(&stepped.events);
         stepped.next
     }
 

@@ -1,7 +1,7 @@
 //! The model's logs beside the stored output of crate `cases`, byte for byte.
 
-use crate::report::Report;
 use evtchn_fifo_host::cases::print_all;
+use evtchn_fifo_host::report::Report;
 use std::env;
 use std::fs;
 use std::path::{Path, PathBuf};

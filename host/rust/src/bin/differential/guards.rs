@@ -1,8 +1,8 @@
 //! The guard pages are there: a child process that reads one byte outside dies of it.
 
-use crate::report::Report;
 use evtchn_fifo_host::crash;
 use evtchn_fifo_host::guarded::{Edge, Guarded};
+use evtchn_fifo_host::report::Report;
 use std::os::unix::process::ExitStatusExt;
 use std::process::{Command, ExitCode, Output};
 

@@ -1,11 +1,11 @@
 //! The histories of every kind, what they met, and the table of faults.
 
-use crate::report::Report;
 use evtchn_fifo_host::differential::campaign::{Campaign, CAMPAIGNS};
 use evtchn_fifo_host::differential::coverage::{Coverage, WANTED};
 use evtchn_fifo_host::differential::faults::{head, try_fault};
 use evtchn_fifo_host::differential::pair::Pair;
 use evtchn_fifo_host::model::{Faults, Model};
+use evtchn_fifo_host::report::Report;
 use std::time::{Duration, Instant};
 
 /// Steps that a test run makes at least.

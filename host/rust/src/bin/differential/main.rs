@@ -7,14 +7,13 @@
 mod cases;
 mod guards;
 mod histories;
-mod report;
 mod settings;
 mod threads;
 
 use evtchn_fifo_host::boundary::{calls, records};
 use evtchn_fifo_host::crash;
 use evtchn_fifo_host::differential::large;
-use report::Report;
+use evtchn_fifo_host::report::Report;
 use settings::Settings;
 use std::process::ExitCode;
 

@@ -1,6 +1,6 @@
 //! Thread stress: every domain's outcome.
 
-use crate::report::Report;
+use evtchn_fifo_host::report::Report;
 use evtchn_fifo_host::stress;
 use evtchn_fifo_host::stress::account::{Account, Numbers};
 use evtchn_fifo_host::stress::domain::Conduct;

@@ -1,4 +1,6 @@
 //! The cost of one call of the model, whole, with real atomic accesses: `model_bench CALL REPEATS`.
+//! Lines per second of a replay: `model_bench --replay FILE`, of a log that
+//! `model_bench --write-log FILE LINES` writes.
 //!
 //! The six calls of `host/c/bench/bench.c`, measured as it does: each repeat puts back the few words
 //! that calls change, makes the call and compares its answer, its count of accesses and the words
@@ -6,19 +8,23 @@
 
 mod calls;
 mod host;
+mod logs;
 
 use calls::{Call, Words};
 use host::Host;
 use std::process::ExitCode;
+use std::str::FromStr;
 use std::time::Instant;
 
 /// Parts that the repeats are made in; the least time of a part counts.
 const ROUNDS: u32 = 20;
 
 fn main() -> ExitCode {
-    match run() {
-        Ok(nanoseconds) => {
-            println!("{nanoseconds:.3}");
+    let arguments: Vec<String> = std::env::args().skip(1).collect();
+    let arguments: Vec<&str> = arguments.iter().map(String::as_str).collect();
+    match run(&arguments) {
+        Ok(text) => {
+            println!("{text}");
             ExitCode::SUCCESS
         }
         Err(text) => {
@@ -28,15 +34,22 @@ fn main() -> ExitCode {
     }
 }
 
-fn run() -> Result<f64, String> {
-    let arguments: Vec<String> = std::env::args().skip(1).collect();
-    let [name, repeats] = &arguments[..] else {
-        return Err("arguments: CALL REPEATS".to_string());
-    };
+fn run(arguments: &[&str]) -> Result<String, String> {
+    match *arguments {
+        ["--write-log", file, lines] => logs::write(file, number(lines)?),
+        ["--replay", file] => logs::play(file),
+        [name, repeats] => measure_call(name, number(repeats)?),
+        _ => Err("arguments: CALL REPEATS, --replay FILE or --write-log FILE LINES".to_string()),
+    }
+}
+
+fn number<N: FromStr>(text: &str) -> Result<N, String> {
+    let number = text.parse();
+    number.map_err(|_| format!("{text} is not a number"))
+}
+
+fn measure_call(name: &str, repeats: u32) -> Result<String, String> {
     let call = Call::named(name).ok_or_else(|| format!("there is no call {name}"))?;
-    let repeats: u32 = repeats
-        .parse()
-        .map_err(|_| format!("{repeats} is not a number"))?;
     if repeats < ROUNDS {
         return Err(format!("at least {ROUNDS} repeats"));
     }
@@ -48,7 +61,8 @@ fn run() -> Result<f64, String> {
             "the call's answer, its count or the words that it leaves are wrong".to_string(),
         );
     }
-    measure(&mut host, call, before, repeats / ROUNDS)
+    let nanoseconds = measure(&mut host, call, before, repeats / ROUNDS)?;
+    Ok(format!("{nanoseconds:.3}"))
 }
 
 /// The least time of the rounds with the call, less that without it. `tools/bench` counts the

@@ -20,7 +20,7 @@ pub struct Judge {
 impl Judge {
     /// Judges the world after a step.
     pub fn after(&mut self, world: &World, stepped: &Stepped) -> Result<(), String> {
-        for event in &stepped.events {
+        for event in stepped.events.iter() {
             self.flows.note(event);
             self.account.note(event);
         }

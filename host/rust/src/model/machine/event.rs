@@ -5,6 +5,7 @@ use crate::model::answer::Answer;
 use crate::model::domain::Call;
 use crate::model::guest::Service;
 use crate::model::kinds::Port;
+use std::ops::Deref;
 
 /// Who makes a step.
 #[derive(Clone, Copy, Debug, PartialEq, Eq)]
@@ -50,6 +51,39 @@ pub enum Event {
     Answered(Side, Answer, u32),
     /// A tell's answer 0, with the number of words after it; the log has no line for it.
     Told(u32),
+}
+
+/// The events of one step in order: at most an access and an answer.
+#[derive(Clone, Copy, Debug, PartialEq, Eq)]
+pub struct Events {
+    list: [Event; 2],
+    length: usize,
+}
+
+impl Events {
+    /// No event.
+    pub const NONE: Events = Events {
+        list: [Event::Told(0); 2],
+        length: 0,
+    };
+
+    /// The events that are there.
+    pub fn of(events: [Option<Event>; 2]) -> Self {
+        let mut given = Events::NONE;
+        for event in events.into_iter().flatten() {
+            given.list[given.length] = event;
+            given.length += 1;
+        }
+        given
+    }
+}
+
+impl Deref for Events {
+    type Target = [Event];
+
+    fn deref(&self) -> &[Event] {
+        &self.list[..self.length]
+    }
 }
 
 impl Maker {

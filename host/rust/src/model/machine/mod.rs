@@ -1,10 +1,9 @@
-//! The stepped machine: both sides' steps over lent memory, their events, the access log.
+//! The stepped machine: both sides' steps over lent memory, and their events.
 
 pub mod event;
-pub mod log;
 pub mod memory;
 pub mod world;
 
-pub use event::{Accessed, Event, Maker, Side};
+pub use event::{Accessed, Event, Events, Maker, Side};
 pub use memory::{ControlBlock, Memory};
 pub use world::{Step, Stepped, World};

@@ -1,6 +1,6 @@
 //! One domain's world and its steps, each the model's own call or reply.
 
-use super::event::{Accessed, Event, Maker, Side};
+use super::event::{Accessed, Event, Events, Maker, Side};
 use super::memory::Memory;
 use crate::model::access::Access;
 use crate::model::answer::{Answer, Masking, Next};
@@ -48,12 +48,12 @@ pub enum Step {
 }
 
 /// What a step gives: what the call or reply gave, and the events.
-#[derive(Clone, Debug, PartialEq, Eq)]
+#[derive(Clone, Copy, Debug, PartialEq, Eq)]
 pub struct Stepped {
     /// The next access or the answer.
     pub next: Next,
     /// The events, in order.
-    pub events: Vec<Event>,
+    pub events: Events,
 }
 
 /// Lent memory, records and ledger of one domain with one VCPU.
@@ -102,14 +102,14 @@ impl World {
             }
             Step::Raise(port) => model.raise(domain, ledger, port),
             Step::Unmask(port) => model.unmask(domain, ledger, port),
-            Step::Service => return given(Side::Guest, model.service(&mut self.guest)),
+            Step::Service => return given(Side::Guest, None, model.service(&mut self.guest)),
             Step::Mask(port) => return self.mask(port, self.guest.words.into()),
             Step::MaskWithin { port, words } => return self.mask(port, words),
             Step::Tell(words) => return self.tell(words),
             Step::Access(side) => return self.access(side),
             Step::HandBack(side, seen) => return self.hand_back(side, seen, false),
         };
-        given(Side::Hypervisor, started)
+        given(Side::Hypervisor, None, started)
     }
 
     /// D21: the page that an expand adds is zeroed.
@@ -124,25 +124,23 @@ impl World {
 
     fn mask(&mut self, port: u64, words: u64) -> Stepped {
         let masking = self.model.mask(port, words);
-        let mut events = Vec::new();
-        if let Masking::Named(access) = masking {
-            events.push(Event::Accessed(Accessed {
+        let accessed = match masking {
+            Masking::Refused(_) => None,
+            Masking::Named(access) => Some(Event::Accessed(Accessed {
                 maker: Maker::Mask(Port(port as u32)),
                 access,
                 seen: self.memory.perform(access),
                 performed: true,
                 accepted: true,
-            }));
-        }
+            })),
+        };
         let (answer, count) = masking.answer();
-        events.push(Event::Answered(Side::Guest, answer, count));
-        let next = Next::Answer(answer, count);
-        Stepped { next, events }
+        given(Side::Guest, accessed, Next::Answer(answer, count))
     }
 
     fn tell(&mut self, words: u64) -> Stepped {
         let next = self.model.tell(&mut self.guest, words);
-        let events = vec![Event::Told(self.guest.words)];
+        let events = Events::of([Some(Event::Told(self.guest.words)), None]);
         Stepped { next, events }
     }
 
@@ -185,17 +183,16 @@ impl World {
                 accepted,
             })
         });
-        let mut stepped = given(side, next);
-        stepped.events.splice(0..0, accessed);
-        stepped
+        given(side, accessed, next)
     }
 }
 
-/// What a call or reply gave, with the event of its answer.
-fn given(side: Side, next: Next) -> Stepped {
-    let events = match next {
-        Next::Access(_) => Vec::new(),
-        Next::Answer(answer, count) => vec![Event::Answered(side, answer, count)],
+/// What a call or reply gave, with the events of its access and of its answer.
+fn given(side: Side, accessed: Option<Event>, next: Next) -> Stepped {
+    let answered = match next {
+        Next::Access(_) => None,
+        Next::Answer(answer, count) => Some(Event::Answered(side, answer, count)),
     };
+    let events = Events::of([accessed, answered]);
     Stepped { next, events }
 }

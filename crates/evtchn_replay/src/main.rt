@@ -1,0 +1,91 @@
+// Plays the log that the first argument names, or standard input, over as many pages as the second says (128 at most, and where
+// there is none) and a ledger for every port, and prints the report in one line; where a line differs, what the log has and what
+// was due in two more.
+mod print;
+
+ghost use Prim.Native.Nat.{_≤_};
+use replay::player::Fed;
+use replay::player::feed::feed;
+use replay::player::start;
+
+// The log's descriptor: standard input where no file or a dash is named, negative where the file can't be opened.
+fn opened() -> i32 {
+    if os::arg_count() < 2 {
+        return 0;
+    }
+    let mut name = [0u8; 4096];
+    let n = os::arg(1, &mut name);
+    if n == 1 && name[0] == b'-' {
+        return 0;
+    }
+    os::open_read(&name[..n])
+}
+
+// A number with a decimal digit more; from 128 on it stays.
+fn with_digit(value: usize, byte: u8) -> usize {
+    if value < 128 {
+        return value * 10 + byte as usize % 16;
+    }
+    value
+}
+
+// The decimal number of some digits, or 128 where that is less.
+fn number(digits: &[u8]) -> usize
+    ensures { λ r. ⌜ r ≤ 128 ⌝ }
+{
+    let mut value: usize = 0;
+    let mut i = 0;
+    while i < digits.len() {
+        value = with_digit(value, digits[i]);
+        i += 1;
+    }
+    if value < 128 { value } else { 128 }
+}
+
+// The number of pages lent: the second argument, 128 where there is none.
+fn pages() -> usize
+    ensures { λ r. ⌜ r ≤ 128 ⌝ }
+{
+    if os::arg_count() < 3 {
+        return 128;
+    }
+    let mut digits = [0u8; 16];
+    let n = os::arg(2, &mut digits);
+    number(&digits[..n])
+}
+
+fn play(fd: i32, ledger: &mut [u16], words: &mut [u32]) -> Fed {
+    let mut block = [0u32; 18];
+    let mut space = io::large_buffer();
+    let mut state = start(ledger, words);
+    let mut turns: u64 = 1099511627776;
+    while turns > 0 {
+        let n = io::read_full(fd, &mut space);
+        if n == 0 {
+            return state;
+        }
+        state = feed(state, ledger, words, &mut block, &space[..n]);
+        turns -= 1;
+    }
+    state
+}
+
+// The same over the first n words.
+fn play_on(fd: i32, ledger: &mut [u16], words: &mut [u32], n: usize) -> Fed {
+    if n < words.len() {
+        return play(fd, ledger, &mut words[..n]);
+    }
+    play(fd, ledger, words)
+}
+
+fn main() {
+    let fd = opened();
+    if fd < 0 {
+        os::fail(b"evtchn_replay: the log can't be read");
+        return;
+    }
+    let mut ledger = [0u16; 131072];
+    let mut words = [0u32; 131072];
+    let state = play_on(fd, &mut ledger, &mut words, pages() * 1024);
+    print::print_report(state);
+}

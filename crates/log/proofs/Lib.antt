@@ -1,0 +1,12 @@
+pub mod TextLaws
+pub mod DigitLaws
+pub mod LengthLaws
+pub mod ScanLaws
+pub mod ChoiceLaws
+pub mod FieldLaws
+pub mod NumberLaws
+pub mod GuessLaws
+pub mod LegalLaws
+pub mod KindLaws
+pub mod Agreement
+pub mod Example

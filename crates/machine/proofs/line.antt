@@ -1,4 +1,0 @@
-mod TextLaws
-mod DigitLaws
-mod LengthLaws
-mod Example

@@ -1,0 +1,17 @@
+pub mod DueLaws
+pub mod PlayerLaws
+pub mod FeedLaws
+pub mod StartLaws
+pub mod LineLaws
+pub mod LegalEvents
+pub mod SoundPlayers
+pub mod QuickLaws
+pub mod OpenLines
+pub mod Pieces
+pub mod PlayLaws
+pub mod OwnLog
+pub mod KindLaws
+pub mod FairPlayers
+pub mod Replaced
+pub mod Example
+pub mod Theorems

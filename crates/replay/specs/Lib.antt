@@ -1,0 +1,5 @@
+pub mod Replay
+pub mod Player
+pub mod State
+pub mod Claims
+pub mod Example

@@ -1,0 +1,2 @@
+// A recorded log played over lent pages, piece by piece.
+pub mod player;
