@@ -19,7 +19,8 @@ LOG = -
 PAGES = 128
 
 archive = target/lib/libevtchn_fifo.a
-proved = $(shell find crates/word crates/calls crates/evtchn_fifo -name '*.rt' -o -name '*.antt') crates.txt tools/archives
+library = word calls machine log queue claims evtchn_fifo interleaving exported replay
+proved = $(shell find $(library:%=crates/%) -name '*.rt' -o -name '*.antt') crates.txt tools/archives
 
 test:
 	@tools/test

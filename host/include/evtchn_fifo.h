@@ -18,7 +18,8 @@
  *     evtchn_fifo.bc           bitcode of LLVM 22, instead of an archive, for a host compiled by clang 22 or later with -O3 -mllvm
  *                              -inline-threshold=5000 -Xclang -mlink-builtin-bitcode -Xclang evtchn_fifo.bc: library and run loops are
  *                              optimised as one, with the registers and the red zone that the host is allowed
- * No function of an archive needs more than EVTCHN_FIFO_STACK bytes of stack, and none calls anything outside it.
+ * No function of this header needs more than EVTCHN_FIFO_STACK bytes of stack, and none calls anything outside its object. Both archives
+ * also have the replay of recorded logs (evtchn_replay.h), an object of its own that is linked only where it is used.
  *
  * Locks. A domain's record and its ledger belong to one lock, held from a call's start to its answer; a second call meanwhile
  * is refused (15). A guest's record belongs to its VCPU. evtchn_fifo_mask needs no lock.
@@ -86,7 +87,7 @@ extern "C" {
 #define EVTCHN_FIFO_CONTROL_WORDS 18u
 
 /*
- * The most stack that a call of either archive needs, return addresses with it. The archive for user space may write to the
+ * The most stack that a function of this header needs, return addresses with it. The archive for user space may write to the
  * red zone below that.
  */
 #define EVTCHN_FIFO_STACK 24u

@@ -1,11 +1,11 @@
 //! Links an archive of the C boundary. `EVTCHN_FIFO_ARCHIVE` names it; without it, it is the one
-//! that `rt staticlib evtchn_fifo` leaves in the repository's target folder.
+//! that `make lib` leaves in the repository's target folder.
 
 use std::env;
 use std::path::{Path, PathBuf};
 
 const VARIABLE: &str = "EVTCHN_FIFO_ARCHIVE";
-const DEFAULT: &str = "../../target/staticlib/libevtchn_fifo.a";
+const DEFAULT: &str = "../../target/lib/libevtchn_fifo.a";
 
 fn main() {
     println!("cargo:rerun-if-env-changed={VARIABLE}");
@@ -14,7 +14,7 @@ fn main() {
     println!("cargo:rerun-if-changed={}", archive.display());
     let Ok(found) = archive.canonicalize() else {
         fail(&format!(
-            "there is no archive at {}: run `rt staticlib evtchn_fifo`, or name it in {VARIABLE}",
+            "there is no archive at {}: run `make lib`, or name it in {VARIABLE}",
             archive.display()
         ));
     };

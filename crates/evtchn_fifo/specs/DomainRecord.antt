@@ -5,6 +5,7 @@
 use Prim.Native.Nat.{ℕ}
 use mathlib.Core.Bool.{Bool, true, false, cond, not}
 use mathlib.Core.List.{List}
+use lib.ListN.{length}
 use lib.Dec.{eqb, ltb}
 use Rattle.word.specs.Word.{portAt, queueAt}
 use Rattle.word.specs.Entry.{priority, lastQueue}
@@ -71,6 +72,10 @@ givenAt r = not (eqb (numberAt 3 r 0) 0)
 
 abbrev pub pagesAt : List ℕ → ℕ
 pagesAt r = numberAt 3 r 4
+
+-- none of a record that is too short
+abbrev pub pagesIn : List ℕ → ℕ
+pagesIn r = cond (ltb (length r) domainSize) 0 (pagesAt r)
 
 abbrev pub tailAt : List ℕ → ℕ → ℕ
 tailAt r q = valueAt 8 r q

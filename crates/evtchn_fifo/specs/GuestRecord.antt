@@ -5,8 +5,8 @@
 use Prim.Native.Nat.{ℕ}
 use mathlib.Core.Bool.{cond}
 use mathlib.Core.List.{List}
-use lib.Dec.{eqb}
-use lib.ListN.{replicate}
+use lib.Dec.{eqb, ltb}
+use lib.ListN.{length, replicate}
 use Rattle.word.specs.Word.{portAt, queueAt}
 use Rattle.calls.specs.Records.{guestCallAt, guestIdle}
 use Rattle.calls.specs.Guest.{isServing}
@@ -49,6 +49,10 @@ readyAt r = numberAt 3 r 64
 
 abbrev pub wordsAt : List ℕ → ℕ
 wordsAt r = numberAt 3 r 68
+
+-- 0 of a record that is too short
+abbrev pub wordsIn : List ℕ → ℕ
+wordsIn r = cond (ltb (length r) guestSize) 0 (wordsAt r)
 
 unfoldable pub serviceAt : List ℕ → GuestCall
 serviceAt r = guestCallAt (guestStageOf (numberAt 3 r 72)) (portAt (numberAt 3 r 76)) (queueAt (numberAt 3 r 80)) (numberAt 3 r 84)

@@ -4,7 +4,7 @@ ghost use mathlib.Core.Bool.{false, not};
 ghost use Prim.Native.Nat.{_≤_};
 ghost use lib.ListN.{length};
 ghost use Rattle.calls.specs.Records.{isFree};
-ghost use Rattle.evtchn_fifo.specs.DomainRecord.{domainSize, ownerCode, ownerOf, stageCode, stageOf, givenCode, givenAt, ownerAt, callAt, putCall, putDomain};
+ghost use Rattle.evtchn_fifo.specs.DomainRecord.{domainSize, ownerCode, ownerOf, stageCode, stageOf, givenCode, givenAt, pagesIn, ownerAt, callAt, putCall, putDomain};
 ghost use Rattle.evtchn_fifo.specs.InPlace.{underWay};
 use crate::layout;
 use crate::numbers;
@@ -82,6 +82,17 @@ pub(crate) fn given_at(domain: &[u8]) -> bool
 {
     let given = numbers::u32_at(domain, layout::GIVEN);
     given != 0
+}
+
+// The array's pages; none where the record is too short.
+pub fn pages_in(domain: &[u8]) -> u32
+    ensures { λ r. ⌜ r ≡ pagesIn (now (domain .entry)) ⌝ }
+{
+    let short = domain.len() < layout::DOMAIN_SIZE;
+    if short {
+        return 0;
+    }
+    numbers::u32_at(domain, layout::PAGES)
 }
 
 // The call under way's owner; none where its owner's or its stage's code is none of the list's.

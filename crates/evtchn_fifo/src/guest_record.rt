@@ -2,7 +2,7 @@
 ghost use mathlib.Core.Path.{_≡_};
 ghost use Prim.Native.Nat.{_≤_};
 ghost use lib.ListN.{length};
-ghost use Rattle.evtchn_fifo.specs.GuestRecord.{guestSize, guestStageCode, guestStageOf, serviceAt, putService, putGuest};
+ghost use Rattle.evtchn_fifo.specs.GuestRecord.{guestSize, guestStageCode, guestStageOf, wordsIn, serviceAt, putService, putGuest};
 use crate::layout;
 use crate::numbers;
 use calls::types::Guest;
@@ -36,6 +36,17 @@ pub fn guest_stage_of(code: u32) -> GuestStage
         5 => GuestStage::G4,
         _ => GuestStage::None,
     }
+}
+
+// The guest's number of words; 0 where the record is too short.
+pub fn words_in(guest: &[u8]) -> u32
+    ensures { λ r. ⌜ r ≡ wordsIn (now (guest .entry)) ⌝ }
+{
+    let short = guest.len() < layout::GUEST_SIZE;
+    if short {
+        return 0;
+    }
+    numbers::u32_at(guest, layout::WORDS)
 }
 
 pub(crate) fn service_at(guest: &[u8]) -> GuestCall

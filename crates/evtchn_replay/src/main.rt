@@ -4,9 +4,8 @@
 mod print;
 
 ghost use Prim.Native.Nat.{_≤_};
-use replay::player::Fed;
-use replay::player::feed::feed;
-use replay::player::start;
+use replay::player::evtchn_replay_feed;
+use replay::player::evtchn_replay_start;
 
 // The log's descriptor: standard input where no file or a dash is named, negative where the file can't be opened.
 fn opened() -> i32 {
@@ -54,28 +53,63 @@ fn pages() -> usize
     number(&digits[..n])
 }
 
-fn play(fd: i32, ledger: &mut [u16], words: &mut [u32]) -> Fed {
+// Whether a counter of lines is shown on standard error: where there is a third argument.
+fn counts() -> bool {
+    3 < os::arg_count()
+}
+
+// Plays what the descriptor gives, over the first n words.
+fn play(fd: i32, ledger: &mut [u8], words: &mut [u32], shown: bool) {
+    let mut domain = [0u8; 100];
+    let mut guest = [0u8; 88];
     let mut block = [0u32; 18];
+    let mut line = [0u8; 64];
+    let mut due = [0u8; 64];
     let mut space = io::large_buffer();
-    let mut state = start(ledger, words);
+    let mut position = evtchn_replay_start(
+        &mut domain,
+        ledger,
+        &mut guest,
+        words,
+        &mut block,
+        &mut due,
+    );
     let mut turns: u64 = 1099511627776;
     while turns > 0 {
         let n = io::read_full(fd, &mut space);
         if n == 0 {
-            return state;
+            turns = 0;
+        } else {
+            position = evtchn_replay_feed(
+                position,
+                &mut domain,
+                ledger,
+                &mut guest,
+                words,
+                &mut block,
+                &mut line,
+                &mut due,
+                &space[..n],
+            );
+            turns -= 1;
+            if shown && turns % 128 == 0 {
+                print::print_count(position.lines);
+            }
         }
-        state = feed(state, ledger, words, &mut block, &space[..n]);
-        turns -= 1;
     }
-    state
+    if shown {
+        print::end_count();
+    }
+    print::print_report(position, &line, &due);
 }
 
 // The same over the first n words.
-fn play_on(fd: i32, ledger: &mut [u16], words: &mut [u32], n: usize) -> Fed {
+fn play_on(fd: i32, ledger: &mut [u8], words: &mut [u32], n: usize, shown: bool) {
     if n < words.len() {
-        return play(fd, ledger, &mut words[..n]);
+        play(fd, ledger, &mut words[..n], shown);
+    } else {
+        play(fd, ledger, words, shown);
     }
-    play(fd, ledger, words)
 }
 
 fn main() {
@@ -84,8 +118,7 @@ fn main() {
         os::fail(b"evtchn_replay: the log can't be read");
         return;
     }
-    let mut ledger = [0u16; 131072];
+    let mut ledger = [0u8; 262144];
     let mut words = [0u32; 131072];
-    let state = play_on(fd, &mut ledger, &mut words, pages() * 1024);
-    print::print_report(state);
+    play_on(fd, &mut ledger, &mut words, pages() * 1024, counts());
 }

@@ -1,7 +1,6 @@
 // The report as text.
-use log::text::Text;
-use replay::player::Fed;
-use replay::player::finish;
+use replay::player::Position;
+use replay::player::evtchn_replay_report;
 
 // A byte as it is shown: a tab or a printable one as it is, any other as a question mark.
 fn shown(byte: u8) -> u8 {
@@ -17,10 +16,8 @@ fn shown(byte: u8) -> u8 {
     byte
 }
 
-// A text without its newline; a word in brackets where it is empty.
-fn print_text(text: Text, none: &[u8]) {
-    let bytes = text.bytes;
-    let len = text.len;
+// The first len bytes of a text, without its newline; a word in brackets where it is empty.
+fn print_text(bytes: &[u8; 64], len: usize, none: &[u8]) {
     if len == 0 {
         io::write_all(1, none);
         return;
@@ -37,12 +34,23 @@ fn print_text(text: Text, none: &[u8]) {
     }
 }
 
-fn print_difference(line: Text, due: Text) {
+fn print_difference(position: Position, line: &[u8; 64], due: &[u8; 64]) {
     io::write_all(1, b"the log has: ");
-    print_text(line, b"(the log ends)");
+    print_text(line, position.line, b"(the log ends)");
     io::write_all(1, b"\nwhat was due: ");
-    print_text(due, b"(nothing)");
+    print_text(due, position.due, b"(nothing)");
     io::write_all(1, b"\n");
+}
+
+// A counter of lines, written over the last one.
+pub(crate) fn print_count(lines: u64) {
+    io::write_all(2, b"\r");
+    io::print_decimal(2, lines);
+    io::write_all(2, b" lines");
+}
+
+pub(crate) fn end_count() {
+    io::write_all(2, b"\r                          \r");
 }
 
 fn print_line(number: u64, what: &[u8]) {
@@ -51,13 +59,10 @@ fn print_line(number: u64, what: &[u8]) {
     io::write_all(1, what);
 }
 
-pub(crate) fn print_report(state: Fed) {
-    let report = finish(state);
+pub(crate) fn print_report(position: Position, line: &[u8; 64], due: &[u8; 64]) {
+    let report = evtchn_replay_report(position);
     let kind = report.kind;
     let number = report.line;
-    let position = state.position;
-    let line = state.line;
-    let due = position.due;
     match kind {
         0 => {
             io::write_all(1, b"all agree, ");
@@ -66,7 +71,7 @@ pub(crate) fn print_report(state: Fed) {
         }
         1 => {
             print_line(number, b" differs\n");
-            print_difference(line, due);
+            print_difference(position, line, due);
         }
         22 => print_line(number, b": refused with 22 (not a line of the form)\n"),
         _ => print_line(

@@ -42,7 +42,7 @@ use Rattle.evtchn_fifo.specs.Encoded.{encodedNext, encodedAnswer, encodedMaskin
 use Rattle.evtchn_fifo.specs.Ledger.{ledgerAt}
 use Rattle.evtchn_fifo.specs.DomainRecord.{domainAt, pagesAt}
 use Rattle.evtchn_fifo.specs.GuestRecord.{guestAt, wordsAt}
-use Rattle.evtchn_fifo.specs.Hypervisor.{dueBytes}
+use Rattle.evtchn_fifo.specs.Hypervisor.{expandBytes, dueBytes}
 use Rattle.evtchn_fifo.specs.Guest.{maskBytes, serviceDueBytes}
 use Rattle.evtchn_fifo.specs.Claims.{Meant, MeantAlone, MeantGuest}
 use Rattle.evtchn_fifo.proofs.Meaning.{domain-calls}
@@ -112,12 +112,17 @@ module _ {n : ℕ} (wide : Width n) (b : Bytes) (long : LongEnough b) where
       ≡ stepOf (advanced (hypervisorAdvance (record { outcome = turnOf n domain (actOf q) .outcome; access = access }) guest) (turnOf n domain (actOf q) .ledger) m)
   asked-is q access m = ap (hypervisorStepped b access m) (request-means n (b .domain) (long .domain) q) ∙ rw (turn-back n some domain (actOf q))
 
+  -- a page is added exactly where the answer is 0
+  pub added-is : (frame frames : ℕ) → eqb (expandBytes n (b .domain) frame frames .next .code) 0 ≡ ltb (domain .pages) (expandArray n domain frame frames .domain .pages)
+  unfolding expandArray
+  added-is frame frames =
+      ap (λ (x : MeantAlone). eqb (x .next .code) 0) (domain-calls n .expand-array frame frames .means (b .domain) (long .domain)) ∙ adds wide domain frame frames
+
   -- the host's zeroed page is the machine's
   page-is : (frame frames : ℕ) → wordsAfter n (b .domain) (b .memory .words) (ExpandArray frame frames) ≡ pageAdded domain (expandArray n domain frame frames) (b .memory .words)
-  unfolding expandArray domainAt
+  unfolding domainAt
   page-is frame frames =
-      ap (λ (t : Bool). cond t (zeroPage (pagesAt (b .domain)) (b .memory .words)) (b .memory .words))
-      (ap (λ (x : MeantAlone). eqb (x .next .code) 0) (domain-calls n .expand-array frame frames .means (b .domain) (long .domain)) ∙ adds wide domain frame frames)
+      ap (λ (t : Bool). cond t (zeroPage (pagesAt (b .domain)) (b .memory .words)) (b .memory .words)) (added-is frame frames)
 
   start-is : (s : Start) → stepped (startDid n b s) ≡ exec n (worldOf b) (step.Hypervisor (narrowStart s))
   unfolding advanceOf startOf expandOf
@@ -136,7 +141,7 @@ module _ {n : ℕ} (wide : Width n) (b : Bytes) (long : LongEnough b) where
       asked-is (Replies seen (b .ledger)) (HypervisorAccess (domain .call) a seen) (performed (b .memory) a .memory)
   perform-is (next.Answer a count) = asked-is (Replies 0 (b .ledger)) Nothing (b .memory)
 
-  due-is : decodedNext (dueBytes n (b .domain)) ≡ dueOf n domain
+  pub due-is : decodedNext (dueBytes n (b .domain)) ≡ dueOf n domain
   due-is = ap decodedNext (domain-calls n .due (b .domain) (long .domain)) ∙ due-back n domain
 
   -- ---- what is asked of a guest
@@ -152,7 +157,7 @@ module _ {n : ℕ} (wide : Width n) (b : Bytes) (long : LongEnough b) where
       served-is (ServiceReplies seen) (GuestAccess (guest .call) a seen) (performed (b .memory) a .memory)
   guest-perform-is (next.Answer a count) = served-is (ServiceReplies 0) Nothing (b .memory)
 
-  service-due-is : decodedNext (serviceDueBytes n (b .guest)) ≡ guestDueOf n guest
+  pub service-due-is : decodedNext (serviceDueBytes n (b .guest)) ≡ guestDueOf n guest
   service-due-is = ap decodedNext (guest-calls n .service-due (b .guest) (long .guest)) ∙ service-due-back n guest
 
   -- ---- a mask, which her number of words of 32 bits refuses as that of 64 does
@@ -164,7 +169,7 @@ module _ {n : ℕ} (wide : Width n) (b : Bytes) (long : LongEnough b) where
   unfolding maskOf encodedMasking encodedAnswer codeOf decodedNext decodedAnswer
   masking-is p words = choose MaskIs (not (isPort n (p .0))) refl (choose MaskIs (leb words (p .0)) refl (rw (access-back (Or (place.Word p) (mask Masked)))))
 
-  mask-narrow : (p words : ℕ) → maskBytes n p words ≡ encodedMasking (maskOf n (portAt (narrow p)) words)
+  pub mask-narrow : (p words : ℕ) → maskBytes n p words ≡ encodedMasking (maskOf n (portAt (narrow p)) words)
   unfolding maskBytes
   mask-narrow p words = ap encodedMasking (ap (λ (q : ℕ). maskOf n (portAt q) (narrow words)) (sym (narrow-twice p)) ∙ narrow-numbers wide .mask (narrow p) words)
 
@@ -174,7 +179,7 @@ module _ {n : ℕ} (wide : Width n) (b : Bytes) (long : LongEnough b) where
 
   -- ---- a step
 
-  step-is : (s : Step) → stepped (stepBytes n b s) ≡ exec n (worldOf b) (narrowStep s)
+  pub step-is : (s : Step) → stepped (stepBytes n b s) ≡ exec n (worldOf b) (narrowStep s)
   unfolding stepBytes advanceOf guestStartOf performSide performHypervisor performGuest handBack
   step-is (step.Hypervisor s) = start-is s
   step-is (step.Guest Service) = served-is Serves Nothing (b .memory)

@@ -9,9 +9,8 @@ use native.Mathlib.Omega.{arith}
 use lib.ListN.{length, length-append}
 use lib.Dec.{ltb}
 use borrow.Author.Tests.{lt-ltb, le-ltb}
-use Rattle.log.specs.declared.text.Text.{Text}
 use Rattle.log.specs.Line.{digit, digits, places}
-use Rattle.log.specs.Text.{withByte, withBytes}
+use Rattle.log.specs.Text.{Text, withByte, withBytes}
 use Rattle.log.proofs.TextLaws.{with-append}
 
 pub length-digits : (base count n : ℕ) → length (digits base count n) ≡ count

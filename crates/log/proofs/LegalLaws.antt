@@ -18,7 +18,7 @@ use Rattle.log.specs.declared.line.LoggedCall.the-variants.{InitControl,
 use Rattle.log.specs.declared.line.Line.{Line}
 use Rattle.log.specs.declared.line.Line.the-variants as line
 use Rattle.log.specs.Line.{ascii, carriesPort, LegalPlace, LegalAccess, LegalCall, Legal}
-use Rattle.log.specs.Read.{field, after, digitValue, valueFrom, value, priorityAt, guessSide, guessPlace, guessCall, guessFrom, guess}
+use Rattle.log.specs.Read.{field, after, digitValue, valueFrom, value, priorityAt, guessSide, guessPlace, guessCall, guessFrom, guess, callIn}
 use Rattle.log.specs.Text.{same}
 
 value-from-below : (base n : ℕ) (s : List ℕ) → n < 2 ^ 32 → valueFrom base n s < 2 ^ 32
@@ -111,3 +111,7 @@ unfolding guess
 guess-legal s =
     legal-from (field s) (field (after s)) (field (after (after s))) (field (after (after (after s))))
     (field (after (after (after (after s))))) (field (after (after (after (after (after s))))))
+
+pub call-in-legal : (s : List ℕ) → LegalCall (callIn s)
+unfolding callIn
+call-in-legal s = call-legal (field (after (after s))) _ _ _ (below 10 _) (below 10 _) (below 10 _)

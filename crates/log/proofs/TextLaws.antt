@@ -6,15 +6,14 @@ use Prim.Native.Nat.{ℕ, _+_, _≤_, _<_}
 use native.Mathlib.Nat.{add-zero, zero-add, add-suc, suc-add}
 use native.Mathlib.Numerals.{add-one}
 use native.Mathlib.Omega.{arith}
-use lib.ListN.{length, getD, take, drop, set, replicate, length-set}
+use lib.ListN.{length, getD, take, drop, set, length-set}
 use lib.Seq.{drop-cons, sets, sets-eq, length-sets, take-append-seam, paste-suc}
 use borrow.Author.Tests.{lt-ltb, le-ltb}
 use Rattle.machine.specs.declared.types.Side.{Side}
-use Rattle.log.specs.declared.text.Text.{Text}
 use Rattle.log.specs.Line.{tab, newline, sideOf, row}
 use Rattle.log.specs.Line.Parts.{opening, closing}
 use Rattle.log.specs.declared.line.Written.the-variants.{Bytes, Short}
-use Rattle.log.specs.Text.{empty, withByte, withBytes, writing, writeOf}
+use Rattle.log.specs.Text.{Text, text, withByte, withBytes, writing, writeOf}
 
 pub with-append : (t : Text) (a b : List ℕ) → withBytes t (a ++ b) ≡ withBytes (withBytes t a) b
 unfolding withBytes
@@ -45,16 +44,18 @@ pub record Holds (t : Text) (bs : List ℕ) : Type 0 where
   pub bytes : take (length bs) (t .bytes) ≡ bs
   pub within : t .len ≤ length (t .bytes)
 
-stored-holds : (bs : List ℕ) → length bs ≤ 64 → Holds (stored empty bs) bs
-unfolding stored
-stored-holds bs h = record {
+stored-holds : (out bs : List ℕ) → length out ≡ 64 → length bs ≤ 64 → Holds (stored (text out 0) bs) bs
+unfolding stored text
+stored-holds out bs e h = record {
   len = zero-add (length bs);
-  bytes = rw (sets-eq bs (replicate 64 0) 0 (omega arith)) (take-append-seam bs _);
-  within = omega (arith, length-sets (replicate 64 0) 0 bs);
+  bytes = rw (sets-eq bs out 0 (omega arith)) (take-append-seam bs _);
+  within = omega (arith, length-sets out 0 bs);
 }
 
-pub holds : {t : Text} {bs : List ℕ} → t ≡ withBytes empty bs → length bs ≤ 53 → Holds t bs
-holds {t} {bs} e h = rw (e, fits empty bs (omega arith)) (stored-holds bs (omega arith))
+-- written to the start of a buffer of 64 bytes
+pub holds : {t : Text} {bs : List ℕ} (out : List ℕ) → length out ≡ 64 → t ≡ withBytes (text out 0) bs → length bs ≤ 53 → Holds t bs
+unfolding text
+holds {t} {bs} out k e h = rw (e, fits (text out 0) bs (omega arith)) (stored-holds out bs k (omega arith))
 
 -- ---- writing it
 

@@ -3,21 +3,18 @@
 use Prim.Native.Nat.{ℕ, _+_}
 use mathlib.Core.Bool.{Bool, true, false, cond}
 use mathlib.Core.List.{List, [], _∷_, _++_}
-use lib.ListN.{length, take, drop, replicate, set}
+use lib.ListN.{length, drop, set}
 use lib.Dec.{ltb, eqb}
-use Rattle.log.specs.declared.text.Text.{Text}
 use Rattle.log.specs.declared.line.Written.{Written}
 use Rattle.log.specs.declared.line.Written.the-variants.{Bytes, Short}
 
 -- a buffer whose first len bytes are the text
+pub record Text : Type 0 where
+  pub bytes : List ℕ
+  pub len : ℕ
+
 unfoldable pub text : List ℕ → ℕ → Text
 text bytes len = record { bytes = bytes; len = len }
-
-abbrev pub empty : Text
-empty = record { bytes = replicate 64 0; len = 0 }
-
-unfoldable pub contents : Text → List ℕ
-contents t = take (t .len) (t .bytes)
 
 -- one byte more; what no longer fits is left out
 unfoldable pub withByte : Text → ℕ → Text

@@ -1,8 +1,9 @@
 // The line of an event. A tell's answer is an event too, and has no line: who logs leaves the events of tells out.
 ghost use mathlib.Core.Path.{_≡_};
 ghost use Rattle.log.specs.Line.{carriesPort};
-ghost use Rattle.log.specs.Event.{seenIn, accessLine, answerLine, lineOf};
+ghost use Rattle.log.specs.Event.{seenIn, accessLine, codeLine, answerLine, lineOf};
 use crate::line::Line;
+use calls::answer::Code;
 use calls::answer::code_of;
 use calls::types::Access;
 use calls::types::Answer;
@@ -44,17 +45,23 @@ pub(crate) fn carries_port(number: u32) -> bool
     number == 19 || number == 21
 }
 
-// The line of an answer: 19 and 21 give their port, no other number has one.
-pub fn answer_line(side: Side, answer: Answer) -> Line
-    ensures { λ r. ⌜ r ≡ answerLine side answer ⌝ }
+// The line of an answer by its number and value: 19 and 21 give their port, no other number has one.
+pub fn code_line(side: Side, code: Code) -> Line
+    ensures { λ r. ⌜ r ≡ codeLine side code ⌝ }
 {
-    let code = code_of(answer);
     let number = code.number;
     let has_port = carries_port(number);
     if has_port {
         return Line::PortAnswer(side, number, Port(code.value));
     }
     Line::Answer(side, number)
+}
+
+pub fn answer_line(side: Side, answer: Answer) -> Line
+    ensures { λ r. ⌜ r ≡ answerLine side answer ⌝ }
+{
+    let code = code_of(answer);
+    code_line(side, code)
 }
 
 pub fn line_of(event: Event) -> Logged

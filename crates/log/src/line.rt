@@ -5,14 +5,13 @@ mod row;
 ghost use mathlib.Core.Path.{_≡_};
 ghost use Rattle.log.specs.Line.{ascii, dash, decimal, row, accessBytes, callBytes, bytesOf};
 ghost use Rattle.log.specs.Line.Parts.{fieldOf};
-ghost use Rattle.log.specs.Text.{text, empty, withBytes, writing, writeOf};
+ghost use Rattle.log.specs.Text.{text, withBytes, writing, writeOf};
 use crate::line::digits::put_decimal;
 use crate::line::row::Field;
 use crate::line::row::put_access_row;
 use crate::line::row::put_call_row;
 use crate::line::row::put_closing;
 use crate::line::row::put_opening;
-use crate::text::Text;
 use crate::text::copy;
 use crate::text::put_bytes;
 use calls::types::Access;
@@ -157,7 +156,8 @@ fn put_answer(out: &mut [u8], side: Side, number: u32, port: Field) -> usize
     put_closing(out, end, port, Field::Dash, Field::Dash)
 }
 
-fn put_line(out: &mut [u8], line: Line) -> usize
+// A line at the start of a buffer, as far as it fits; the place after it.
+pub fn put_line(out: &mut [u8], line: Line) -> usize
     ensures { λ r. ⌜ text (now (out .exit)) r ≡ withBytes (text (now (out .entry)) 0) (bytesOf line) ⌝ }
 {
     match line {
@@ -171,25 +171,12 @@ fn put_line(out: &mut [u8], line: Line) -> usize
     }
 }
 
-// The bytes of a line.
-pub fn text_of(line: Line) -> Text
-    ensures { λ r. ⌜ r ≡ withBytes empty (bytesOf line) ⌝ }
-{
-    let mut bytes = [0u8; 64];
-    let len = put_line(&mut bytes, line);
-    Text {
-        bytes: bytes,
-        len: len,
-    }
-}
-
 // Writes a line to the start of out, or nothing where out is too short.
 pub fn write_line(out: &mut [u8], line: Line) -> Written
     ensures { λ r. ⌜ writing r (now (out .exit)) ≡ writeOf (bytesOf line) (now (out .entry)) ⌝ }
 {
-    let text = text_of(line);
-    let bytes = text.bytes;
-    let len = text.len;
+    let mut bytes = [0u8; 64];
+    let len = put_line(&mut bytes, line);
     if out.len() < len {
         return Written::Short;
     }

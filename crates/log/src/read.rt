@@ -8,8 +8,9 @@ ghost use Rattle.log.specs.Text.{same};
 use crate::event::carries_port;
 use crate::line::Line;
 use crate::line::LoggedCall;
-use crate::line::text_of;
+use crate::line::put_line;
 use crate::text::same;
+use crate::text::starts_as;
 use calls::types::Access;
 use calls::types::Place;
 use machine::types::Side;
@@ -281,13 +282,12 @@ pub fn call_in(s: &[u8]) -> LoggedCall
 }
 
 // Whether a text is a line's bytes.
-pub fn is_text_of(s: &[u8], line: Line) -> bool
+fn is_text_of(s: &[u8], line: Line) -> bool
     ensures { λ r. ⌜ r ≡ same (bytesOf line) (now (s .entry)) ⌝ }
 {
-    let text = text_of(line);
-    let bytes = text.bytes;
-    let len = text.len;
-    same(&bytes[..len], s)
+    let mut bytes = [0u8; 64];
+    let len = put_line(&mut bytes, line);
+    starts_as(&bytes, len, s)
 }
 
 // The line that a text is, its newline included.

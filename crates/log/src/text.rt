@@ -1,27 +1,9 @@
-// A short text, built in place by appending. What no longer fits is left out.
+// Texts built in place, by appending to a buffer: what no longer fits is left out. And whether two texts are the same.
 ghost use mathlib.Core.Path.{_≡_};
 ghost use mathlib.Core.List.{_++_};
 ghost use Prim.Native.Nat.{_≤_};
 ghost use lib.ListN.{length, take, drop};
-ghost use Rattle.log.specs.Text.{text, empty, contents, withByte, withBytes};
-ghost use Rattle.log.specs.Text.{same};
-
-// The first len bytes are the text.
-#[repr(C)]
-pub struct Text {
-    pub bytes: [u8; 64],
-    pub len: usize,
-}
-
-// No byte.
-pub fn empty() -> Text
-    ensures { λ r. ⌜ r ≡ empty ⌝ }
-{
-    Text {
-        bytes: [0u8; 64],
-        len: 0,
-    }
-}
+ghost use Rattle.log.specs.Text.{text, withByte, withBytes, same};
 
 // A byte at a place of a buffer; the place after it.
 pub fn put_byte(out: &mut [u8], at: usize, byte: u8) -> usize
@@ -34,7 +16,7 @@ pub fn put_byte(out: &mut [u8], at: usize, byte: u8) -> usize
     at
 }
 
-pub(crate) fn put_bytes(out: &mut [u8], at: usize, more: &[u8]) -> usize
+pub fn put_bytes(out: &mut [u8], at: usize, more: &[u8]) -> usize
     ensures { λ r. ⌜ text (now (out .exit)) r ≡ withBytes (text (now (out .entry)) at) (now (more .entry)) ⌝ }
 {
     let mut end = at;
@@ -78,20 +60,11 @@ pub fn same(s: &[u8], t: &[u8]) -> bool
 }
 
 // Whether the first len bytes of a buffer are these.
-fn starts_as(bytes: &[u8], len: usize, s: &[u8]) -> bool
+pub fn starts_as(bytes: &[u8], len: usize, s: &[u8]) -> bool
     ensures { λ r. ⌜ r ≡ same (take len (now (bytes .entry))) (now (s .entry)) ⌝ }
 {
     if len < bytes.len() {
         return same(&bytes[..len], s);
     }
     same(bytes, s)
-}
-
-// Whether a text's bytes are these.
-pub fn is(text: Text, s: &[u8]) -> bool
-    ensures { λ r. ⌜ r ≡ same (contents text) (now (s .entry)) ⌝ }
-{
-    let bytes = text.bytes;
-    let len = text.len;
-    starts_as(&bytes, len, s)
 }

@@ -1,5 +1,8 @@
 pub mod DueLaws
-pub mod PlayerLaws
+pub mod ResultLaws
+pub mod StepLaws
+pub mod CallLaws
+pub mod OpenLaws
 pub mod FeedLaws
 pub mod StartLaws
 pub mod LineLaws

@@ -14,16 +14,12 @@ use Rattle.replay.specs.declared.player.Report.{Report}
 use Rattle.replay.specs.Replay.{Player, playing, stopped, played, playedAll, linesOf, starts, ends}
 use Rattle.replay.specs.Player.{Feed, feed, quick, kept, lineEnded, fedByte, fed, lastly, reports}
 use Rattle.replay.specs.Claims.{fedPieces, joined, PiecesPlayed}
+use Rattle.replay.proofs.FeedLaws.{fed-append}
 use Rattle.replay.proofs.SoundPlayers.{Sound, starts-sound, played-sound}
 use Rattle.replay.proofs.QuickLaws.{quick-played}
 use Rattle.replay.proofs.OpenLines.{Open, open-more, open-cut, open-last, open-unread, kept-front, front-played}
 
 -- ---- pieces are their bytes
-
-fed-append : (n : ℕ) (f : Feed) (a b : List ℕ) → fed n f (a ++ b) ≡ fed n (fed n f a) b
-unfolding fed
-fed-append n f [] b = refl
-fed-append n f (c ∷ a) b = fed-append n (fedByte n f c) a b
 
 fed-joined : (n : ℕ) (f : Feed) (pieces : List (List ℕ)) → fedPieces n f pieces ≡ fed n f (joined pieces)
 unfolding fedPieces joined fed

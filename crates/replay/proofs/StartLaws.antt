@@ -1,32 +1,44 @@
--- The start: fresh records over a fresh ledger and words of 0, and the header due.
+-- The start: what is lent is made fresh, and the header is due.
 -- Assumes nothing.
-use Prim.Native.Nat.{ℕ}
-use mathlib.Core.Path.{_≡_, ap}
+use Prim.Native.Nat.{ℕ, _≤_}
+use mathlib.Core.Path.{_≡_, ap, _∙_}
 use mathlib.Core.List.{List, [], _∷_}
-use lib.ListN.{replicate}
-use Rattle.word.specs.Entry.{freshEntry}
-use Rattle.calls.specs.declared.types.Domain.{Domain}
-use Rattle.calls.specs.declared.types.Guest.{Guest}
-use Rattle.calls.specs.Records.{freshDomain, freshGuest}
-use Rattle.machine.specs.Memory.{memory}
-use Rattle.log.specs.declared.text.Text.{Text}
+use lib.ListN.{length, replicate}
+use Rattle.word.specs.Word.{linkBits}
+use Rattle.machine.specs.Exec.{World}
 use Rattle.log.specs.declared.line.Line.the-variants as line
 use Rattle.log.specs.Line.{bytesOf}
-use Rattle.log.specs.Text.{empty, contents, withBytes}
-use Rattle.replay.specs.Replay.{playing, freshWorld, starts}
+use Rattle.evtchn_fifo.specs.Encoded.{Freshened, freshened}
+use Rattle.evtchn_fifo.specs.Ledger.{entries, freshLedgerBytes}
+use Rattle.evtchn_fifo.specs.DomainRecord.{domainSize}
+use Rattle.evtchn_fifo.specs.GuestRecord.{guestSize}
+use Rattle.evtchn_fifo.specs.Hypervisor.{freshDomainBytes}
+use Rattle.evtchn_fifo.specs.Guest.{freshGuestBytes}
+use Rattle.evtchn_fifo.proofs.Meaning.{domain-calls}
+use Rattle.evtchn_fifo.proofs.GuestMeaning.{guest-calls}
+use Rattle.replay.specs.Replay.{Player, playing, freshWorld, starts}
 use Rattle.replay.specs.Player.{feed}
-use Rattle.replay.specs.State.{dueIn, playerOf, at, feedOf}
-use Rattle.replay.proofs.DueLaws.{line-text}
+use Rattle.replay.specs.State.{worldIn, at, feedAt}
+use Rattle.replay.proofs.DueLaws.{LinePut, playing-at, line-due}
 
-header-due : dueIn (withBytes empty (bytesOf line.Header)) empty ≡ bytesOf line.Header ∷ []
-unfolding dueIn
-header-due = line-text line.Header
+module _ (d t g : List ℕ) (domain-long : domainSize ≤ length d) (guest-long : guestSize ≤ length g) where
+  fresh-is : (words : ℕ) →
+      worldIn (freshDomainBytes d .record-bytes) (freshLedgerBytes t .record-bytes) (freshGuestBytes g .record-bytes) (replicate words 0) (replicate 18 0) ≡ freshWorld (entries t) words
+  unfolding freshWorld
+  fresh-is words = rw (domain-calls linkBits .fresh d domain-long, domain-calls linkBits .fresh-ledger t, guest-calls linkBits .fresh g guest-long)
 
-pub started : (entries words : ℕ) (ledger lent : List ℕ) (d : Domain) (g : Guest) (due next none : Text) →
-    ledger ≡ replicate entries freshEntry → lent ≡ replicate words 0 → d ≡ freshDomain → g ≡ freshGuest →
-    due ≡ withBytes empty (bytesOf line.Header) → next ≡ empty → none ≡ empty →
-    feedOf (record { position = at (record { domain = d; guest = g }) due next 0 0; line = none }) ledger (memory lent (replicate 18 0))
-    ≡ feed (starts entries words) []
-unfolding feedOf playerOf contents freshWorld
-started entries words ledger lent d g due next none a b e f h i j =
-    simp (a, b, e, f, h, i, j) (ap (λ (x : List (List ℕ)). feed (playing (freshWorld entries words) x 0) []) header-due)
+  pub started : (d′ t′ g′ ws′ b b′ due : List ℕ) (words header i j k : ℕ) → freshened i d′ ≡ freshDomainBytes d → freshened j t′ ≡ freshLedgerBytes t → freshened k g′ ≡ freshGuestBytes g →
+      ws′ ≡ replicate words 0 → length b ≡ 18 → b′ ≡ replicate (length b) 0 → LinePut line.Header due header → (bytes : List ℕ) →
+      feedAt (at header 0 0 0) bytes due (worldIn d′ t′ g′ ws′ b′) ≡ feed (starts (entries t) words) []
+  unfolding feedAt
+  started d′ t′ g′ ws′ b b′ due words header i j k e f h m size n put bytes =
+      let is : worldIn d′ t′ g′ ws′ b′ ≡ freshWorld (entries t) words
+      = ap (λ (x : Freshened). worldIn (x .record-bytes) t′ g′ ws′ b′) e ∙ ap (λ (x : Freshened). worldIn (freshDomainBytes d .record-bytes) (x .record-bytes) g′ ws′ b′) f
+      ∙ ap (λ (x : Freshened). worldIn (freshDomainBytes d .record-bytes) (freshLedgerBytes t .record-bytes) (x .record-bytes) ws′ b′) h
+      ∙ ap (λ (x : List ℕ). worldIn (freshDomainBytes d .record-bytes) (freshLedgerBytes t .record-bytes) (freshGuestBytes g .record-bytes) x b′) m
+      ∙ ap (λ (x : List ℕ). worldIn (freshDomainBytes d .record-bytes) (freshLedgerBytes t .record-bytes) (freshGuestBytes g .record-bytes) (replicate words 0) x) (n ∙ ap (λ (y : ℕ). replicate y 0) size)
+      ∙ fresh-is words in
+      ap (λ (x : Player). feed x [])
+      (playing-at due header 0 0 (worldIn d′ t′ g′ ws′ b′)
+      ∙ ap (λ (ds : List (List ℕ)). playing (worldIn d′ t′ g′ ws′ b′) ds 0) (line-due line.Header due header 0 put)
+      ∙ ap (λ (w : World). playing w (bytesOf line.Header ∷ []) 0) is)

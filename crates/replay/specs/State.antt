@@ -1,77 +1,73 @@
--- What code's records mean: a position and the lent slices as a player, with the line that is being read as a feed.
+-- What a position and the bytes lent to a replay mean: a player, as `Player.antt` has it.
 -- Assumes nothing.
-use Prim.Native.Nat.{ℕ}
-use mathlib.Core.Bool.{Bool, cond, not}
+use Prim.Native.Nat.{ℕ, suc}
+use mathlib.Core.Bool.{Bool, false, cond}
 use mathlib.Core.List.{List, [], _∷_}
-use lib.Dec.{eqb}
-use Rattle.calls.specs.Records.{isFree}
-use Rattle.calls.specs.Guest.{isServing}
+use lib.ListN.{take}
+use lib.Dec.{eqb, ltb}
+use Rattle.calls.specs.declared.answer.Code.{Code}
 use Rattle.machine.specs.declared.types.Side.{Side}
 use Rattle.machine.specs.declared.types.Side.the-variants as side
-use Rattle.machine.specs.declared.types.Sides.{Sides}
-use Rattle.machine.specs.declared.types.Event.{Event}
-use Rattle.machine.specs.Memory.{Memory, memory}
-use Rattle.machine.specs.Exec.{world}
-use Rattle.log.specs.declared.text.Text.{Text}
-use Rattle.log.specs.declared.event.Logged.{Logged}
-use Rattle.log.specs.declared.event.Logged.the-variants as logged
-use Rattle.log.specs.declared.read.Found.{Found}
-use Rattle.log.specs.declared.read.Found.the-variants as found
-use Rattle.log.specs.Line.{bytesOf}
-use Rattle.log.specs.Event.{lineOf}
-use Rattle.log.specs.Read.{readLine}
-use Rattle.log.specs.Text.{empty, contents, withBytes, same}
+use Rattle.machine.specs.Memory.{memory}
+use Rattle.machine.specs.Exec.{World}
+use Rattle.log.specs.declared.line.Line.the-variants as line
+use Rattle.log.specs.Line.{newline, bytesOf}
+use Rattle.log.specs.Event.{codeLine}
+use Rattle.evtchn_fifo.specs.Encoded.{EncodedNext}
+use Rattle.exported.specs.Run.{worldOf}
 use Rattle.replay.specs.declared.player.Position.{Position}
-use Rattle.replay.specs.declared.player.Fed.{Fed}
-use Rattle.replay.specs.declared.player.Report.{Report}
 use Rattle.replay.specs.Replay.{Player, playing, stopped, report, nextLine}
-use Rattle.replay.specs.Player.{Feed, feed, reports}
+use Rattle.replay.specs.Player.{Feed, feed}
 
--- a text of no bytes is none
-abbrev pub some : Text → List (List ℕ)
-some t = cond (eqb (t .len) 0) [] (contents t ∷ [])
+-- the world that lent bytes are: a domain's record, its ledger, a guest's record, the array's words and the control block
+abbrev pub worldIn : List ℕ → List ℕ → List ℕ → List ℕ → List ℕ → World
+worldIn domain ledger guest words block = worldOf (record { domain = domain; ledger = ledger; guest = guest; memory = memory words block })
 
--- the line of an event, no byte where it has none
-abbrev pub loggedText : Logged → Text
-loggedText logged.None = empty
-loggedText (logged.Line l) = withBytes empty (bytesOf l)
+-- ---- what is due
 
-unfoldable pub eventText : Event → Text
-eventText e = loggedText (lineOf e)
+-- the first bytes of a buffer, and a mask's answer after its access
+abbrev pub answerAfter : ℕ → List (List ℕ)
+answerAfter mask = cond (eqb mask 0) [] (bytesOf (line.Answer side.Guest 0) ∷ [])
 
-unfoldable pub dueIn : Text → Text → List (List ℕ)
-dueIn due next = cond (eqb (due .len) 0) [] (contents due ∷ some next)
+unfoldable pub dueIn : List ℕ → ℕ → ℕ → List (List ℕ)
+dueIn due len mask = cond (eqb len 0) [] (take len due ∷ answerAfter mask)
+
+-- an answer by its numbers, and its line where a result is one
+abbrev pub codeIn : EncodedNext → Code
+codeIn x = record { number = x .code; value = x .index }
+
+unfoldable pub resultDue : Side → EncodedNext → List (List ℕ)
+resultDue s x = cond (ltb (x .code) 0x100) (bytesOf (codeLine s (codeIn x)) ∷ []) []
+
+-- ---- positions
+
+abbrev pub at : ℕ → ℕ → ℕ → ℕ → Position
+at due mask k stop = record { lines = k; line = 0; due = due; mask = mask; stop = stop }
+
+abbrev pub atLine : Position → ℕ → Position
+atLine p line = record { lines = p .lines; line = line; due = p .due; mask = p .mask; stop = p .stop }
 
 -- stop is 0, or the kind of the report
-unfoldable pub playerOf : Position → List ℕ → Memory → Player
-playerOf p ledger m =
-    cond (eqb (p .stop) 0) (playing (world (p .sides) ledger m) (dueIn (p .due) (p .next)) (p .lines))
-    (stopped (report (p .stop) (nextLine (p .lines))) (cond (eqb (p .stop) 1) (contents (p .due)) []))
+unfoldable pub playerAt : Position → List ℕ → World → Player
+playerAt p due w =
+    cond (eqb (p .stop) 0) (playing w (dueIn due (p .due) (p .mask)) (p .lines))
+    (stopped (report (p .stop) (nextLine (p .lines))) (cond (eqb (p .stop) 1) (take (p .due) due) []))
 
-abbrev pub busySides : Sides → Side → Bool
-busySides s side.Hypervisor = not (isFree (s .domain .call .owner))
-busySides s side.Guest = isServing (s .guest .call .stage)
+unfoldable pub feedAt : Position → List ℕ → List ℕ → World → Feed
+feedAt p line due w = feed (playerAt p due w) (take (p .line) line)
 
--- ---- positions that a line leads to
+-- ---- lines of a piece
 
-abbrev pub at : Sides → Text → Text → ℕ → ℕ → Position
-at s due next k stop = record { sides = s; due = due; next = next; lines = k; stop = stop }
+-- the length of the first line, its newline included; of the whole text where it has none
+unfoldable pub lineLength : List ℕ → ℕ
+lineLength [] = 0
+lineLength (b ∷ text) = cond (eqb b newline) 1 (suc (lineLength text))
 
-unfoldable pub missed : Sides → Text → ℕ → Found → Position
-missed s due k (found.Line l) = at s due empty k 1
-missed s due k found.NotOfTheForm = at s due empty k 22
+-- whether the last byte is a newline
+abbrev pub endsAfter : ℕ → List ℕ → Bool
+endsAfter b [] = eqb b newline
+endsAfter b (c ∷ text) = endsAfter c text
 
-unfoldable pub metAt : Sides → Text → Text → ℕ → List ℕ → Position
-metAt s due next k text =
-    cond (eqb (due .len) 0) (missed s due k (readLine text))
-    (cond (same (contents due) text) (at s next empty (nextLine k) 0) (missed s due k (readLine text)))
-
-abbrev pub atLine : Position → List ℕ → ℕ → Fed
-atLine p bytes len = record { position = p; line = record { bytes = bytes; len = len } }
-
-unfoldable pub feedOf : Fed → List ℕ → Memory → Feed
-feedOf f ledger m = feed (playerOf (f .position) ledger m) (contents (f .line))
-
--- the report, if the log ends here: the world does not matter
-unfoldable pub reportOf : Fed → Report
-reportOf f = reports (feedOf f [] (memory [] []))
+abbrev pub endsLine : List ℕ → Bool
+endsLine [] = false
+endsLine (b ∷ text) = endsAfter b text

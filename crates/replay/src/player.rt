@@ -1,39 +1,44 @@
-// A position in a log that is played, and what a line, a piece of the log and its end make of it.
+// A position in a log that is played: its start, what a piece of the log makes of it, and its report. Records, ledger, pages, control
+// block and texts are the host's, lent and changed in place.
+mod access;
 mod call;
 mod due;
-pub mod feed;
-pub mod line;
+mod feed;
+mod line;
+mod named;
 
 ghost use mathlib.Core.Path.{_≡_};
-ghost use mathlib.Core.List.{[]};
+ghost use mathlib.Core.List.{List, []};
+ghost use Prim.Native.Nat.{ℕ};
 ghost use lib.ListN.{length, replicate};
-ghost use Rattle.machine.specs.Memory.{memory};
+ghost use Rattle.word.specs.Word.{linkBits};
+ghost use Rattle.machine.specs.Exec.{World};
+ghost use Rattle.evtchn_fifo.specs.Ledger.{entries};
 ghost use Rattle.replay.specs.Replay.{starts};
-ghost use Rattle.replay.specs.Player.{feed};
-ghost use Rattle.replay.specs.State.{feedOf, reportOf};
+ghost use Rattle.replay.specs.Player.{feed, fed, reports};
+ghost use Rattle.replay.specs.State.{worldIn, feedAt};
+use crate::player::due::next_line;
+use crate::player::feed::feed_on;
+use evtchn_fifo::guest::evtchn_fifo_fresh_guest;
+use evtchn_fifo::hypervisor::evtchn_fifo_fresh_domain;
+use evtchn_fifo::ledger::evtchn_fifo_fresh_ledger;
 use log::line::Line;
-use log::line::text_of;
-use log::text::Text;
-use log::text::empty;
-use machine::types::Sides;
+use log::line::put_line;
 
-// The records; the line that is due and the one due after it, each empty where there is none; how many lines agreed; 0, or
-// the kind of the report at which it stopped: 1, 22 or 33.
+// How many lines agreed; the length of the line that is being read, or of the one at which it stopped; the length of the line that is
+// due, 0 where none is; 1 where that is a mask's access, whose answer is due after it; 0, or the kind of the report at which it
+// stopped: 1, 22 or 33.
+#[repr(C)]
 pub struct Position {
-    pub sides: Sides,
-    pub due: Text,
-    pub next: Text,
     pub lines: u64,
+    pub line: usize,
+    pub due: usize,
+    pub mask: u32,
     pub stop: u32,
 }
 
-// A position, and the line that is being read, or the one at which it stopped: its first 64 bytes.
-pub struct Fed {
-    pub position: Position,
-    pub line: Text,
-}
-
 // 0: all agree, with the number of lines; else the kind with the line's number.
+#[repr(C)]
 pub struct Report {
     pub kind: u32,
     pub line: u64,
@@ -49,47 +54,79 @@ fn zero(words: &mut [u32])
     }
 }
 
-// The start, over a ledger and words that are made fresh, whatever they held, and a control block of 18 words that is all 0.
-pub fn start(ledger: &mut [u16], words: &mut [u32]) -> Fed
-    ensures { λ r. ⌜ feedOf r (now (ledger .exit)) (memory (now (words .exit)) (replicate 18 0)) ≡ feed (starts (length (now (ledger .entry))) (length (now (words .entry)))) [] ⌝ }
+// The start: all that is lent is made fresh, whatever it held, and the header is due.
+#[no_mangle]
+pub extern "C" fn evtchn_replay_start(
+    domain: &mut [u8; 100],
+    ledger: &mut [u8],
+    guest: &mut [u8; 88],
+    words: &mut [u32],
+    block: &mut [u32; 18],
+    due: &mut [u8; 64],
+) -> Position
+    ensures { λ r. ⌜ ((line : List ℕ) → feedAt r line (now (due .exit)) (worldIn (now (domain .exit)) (now (ledger .exit)) (now (guest .exit)) (now (words .exit)) (now (block .exit))) ≡ feed (starts (entries (now (ledger .entry))) (length (now (words .entry)))) []) ⌝ }
 {
-    calls::records::fresh_ledger(ledger);
+    evtchn_fifo_fresh_domain(domain);
+    evtchn_fifo_fresh_ledger(ledger);
+    evtchn_fifo_fresh_guest(guest);
     zero(words);
-    let domain = calls::records::fresh_domain();
-    let guest = calls::records::fresh_guest();
-    let sides = Sides {
-        domain: domain,
-        guest: guest,
-    };
-    let due = text_of(Line::Header);
-    let position = Position {
-        sides: sides,
-        due: due,
-        next: empty(),
+    zero(block);
+    let header = put_line(due, Line::Header);
+    Position {
         lines: 0,
+        line: 0,
+        due: header,
+        mask: 0,
         stop: 0,
-    };
-    Fed {
-        position: position,
-        line: empty(),
     }
 }
 
-// The report, if the log ends here.
-pub fn finish(state: Fed) -> Report
-    ensures { λ r. ⌜ r ≡ reportOf state ⌝ }
+// A piece of the log.
+#[no_mangle]
+pub extern "C" fn evtchn_replay_feed(
+    position: Position,
+    domain: &mut [u8; 100],
+    ledger: &mut [u8],
+    guest: &mut [u8; 88],
+    words: &mut [u32],
+    block: &mut [u32; 18],
+    line: &mut [u8; 64],
+    due: &mut [u8; 64],
+    text: &[u8],
+) -> Position
+    ensures { λ r. ⌜ feedAt r (now (line .exit)) (now (due .exit)) (worldIn (now (domain .exit)) (now (ledger .exit)) (now (guest .exit)) (now (words .exit)) (now (block .exit))) ≡ fed linkBits (feedAt position (now (line .entry)) (now (due .entry)) (worldIn (now (domain .entry)) (now (ledger .entry)) (now (guest .entry)) (now (words .entry)) (now (block .entry)))) (now (text .entry)) ⌝ }
 {
-    let position = state.position;
-    let line = state.line;
-    let first = position.due;
-    let lines = position.lines;
     let stop = position.stop;
-    let after = due::next_line(lines);
     let playing = stop == 0;
     if playing {
-        let whole = line.len == 0;
+        return feed_on(
+            position,
+            domain,
+            ledger,
+            guest,
+            words,
+            block,
+            line,
+            due,
+            text,
+        );
+    }
+    position
+}
+
+// The report, if the log ends here.
+#[no_mangle]
+pub extern "C" fn evtchn_replay_report(position: Position) -> Report
+    ensures { λ r. ⌜ ((line due : List ℕ) (w : World) → length line ≡ 64 → r ≡ reports (feedAt position line due w)) ⌝ }
+{
+    let lines = position.lines;
+    let stop = position.stop;
+    let after = next_line(lines);
+    let playing = stop == 0;
+    if playing {
+        let whole = position.line == 0;
         if whole {
-            let none = first.len == 0;
+            let none = position.due == 0;
             if none {
                 return Report {
                     kind: 0,

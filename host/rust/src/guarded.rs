@@ -85,6 +85,14 @@ impl Guarded {
         unsafe { std::slice::from_raw_parts_mut(self.base.add(self.start), self.length) }
     }
 
+    /// The bytes in use as words of four bytes, to be changed.
+    pub fn words_mut(&mut self) -> &mut [u32] {
+        let (whole, length) = (self.length / 4, self.length);
+        assert!(length % 4 == 0, "{length} bytes are no whole words");
+        // SAFETY: as `bytes_mut`; both edges are those of pages, so that whole words are aligned.
+        unsafe { std::slice::from_raw_parts_mut(self.base.add(self.start).cast(), whole) }
+    }
+
     /// Reads one byte outside: the process is expected to end.
     pub fn read_outside(&self, edge: Edge) -> u8 {
         let first = self.base.wrapping_add(self.start);

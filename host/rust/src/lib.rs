@@ -8,13 +8,17 @@
 //! - `differential`: the same steps by both, everything compared after each; `guarded`: buffers
 //!   against guard pages; `crash`: the seed is printed when one of them is met
 //! - `stress`: threads on several domains with real atomic accesses
-//! - `report`: what passed and what failed; `random`: the generator of everything random
+//! - `report`: what passed and what failed; `random`: the generator of everything random;
+//!   `settings`: what the environment asks for
 //!
 //! `./run-tests` runs everything but `replay_corpus` and ends with a line `N passed, M failed`;
 //! `MINUTES=n ./run-tests` runs the differential tests for n minutes from fresh seeds, `SEED=n`
-//! from a given one. Program `replay_corpus`, which `tools/test-replay` runs, compares the proved
-//! program `evtchn_replay` with the model's replay on the corpus. Program `model_bench` measures
-//! the model for `make bench`.
+//! from a given one. Program `replay_corpus`, which `tools/test-replay` runs, compares the archive's
+//! replay functions and the proved program `evtchn_replay` with the model's replay on the corpus.
+//! Program `model_bench` measures the model, and both replays, for `make bench`.
+//!
+//! Only these two programs use the replay functions: `differential` links with an archive that has
+//! none.
 //!
 //! `EVTCHN_FIFO_ARCHIVE` names another archive to link than the repository's, `EVTCHN_FIFO_CASES`
 //! another stored output of crate `cases`, `EVTCHN_REPLAY` another program `evtchn_replay`.
@@ -30,4 +34,5 @@ pub mod guarded;
 pub mod model;
 pub mod random;
 pub mod report;
+pub mod settings;
 pub mod stress;

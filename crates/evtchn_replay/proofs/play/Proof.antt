@@ -6,26 +6,65 @@ use Rattle.evtchn_replay.proofs.play.Statement.{statement}
 use Rattle.evtchn_replay.proofs.play.Tie as tie
 
 abbrev Inv-loop : tie.InvT-loop
-Inv-loop fd ledger₀ words₀ block₀ space₀ state₀ turns₀ ledger words block space state turns =
-    (length ledger ≡ length ledger₀) × (length words ≡ length words₀) × (length block ≡ 18) × (length space ≡ 65536)
+Inv-loop fd ledger₀ words₀ shown domain₀ guest₀ block₀ line₀ due₀ space₀ position₀ turns₀ ledger words domain guest block line due space position turns =
+    (length ledger ≡ length ledger₀) × (length words ≡ length words₀) × (length space ≡ 65536)
 
 abbrev μ-loop : tie.MeasureT-loop
-μ-loop fd ledger₀ words₀ block₀ space₀ state₀ turns₀ ledger words block space state turns = turns
+μ-loop fd ledger₀ words₀ shown domain₀ guest₀ block₀ line₀ due₀ space₀ position₀ turns₀ ledger words domain guest block line due space position turns = turns
 
 large-buffer-requires : tie.Need-large-buffer-requires Inv-loop μ-loop
 large-buffer-requires c κs = search needs
 
-start-requires : tie.Need-start-requires Inv-loop μ-loop
-start-requires c κs = search needs
+evtchn-replay-start-requires : tie.Need-evtchn-replay-start-requires Inv-loop μ-loop
+evtchn-replay-start-requires c κs = search needs
 
 loop-holds : tie.Need-loop-holds Inv-loop μ-loop
-loop-holds c = (refl, refl, refl, search needs)
+loop-holds c = (refl, refl, search needs)
 
 slice-aggregate-read-full : tie.Need-slice-aggregate-read-full Inv-loop μ-loop
 slice-aggregate-read-full c = search needs
 
 read-full-requires : tie.Need-read-full-requires Inv-loop μ-loop
 read-full-requires c κs = search needs
+
+loop-less : tie.Need-loop-less Inv-loop μ-loop
+loop-less c = search needs
+
+loop-again : tie.Need-loop-again Inv-loop μ-loop
+loop-again c = search needs
+
+array-share-prefix-space : tie.Need-array-share-prefix-space Inv-loop μ-loop
+array-share-prefix-space c = search needs
+
+slice-aggregate-evtchn-replay-feed : tie.Need-slice-aggregate-evtchn-replay-feed Inv-loop μ-loop
+slice-aggregate-evtchn-replay-feed c = search needs
+
+evtchn-replay-feed-requires : tie.Need-evtchn-replay-feed-requires Inv-loop μ-loop
+evtchn-replay-feed-requires c κs = search needs
+
+sub-turns : tie.Need-sub-turns Inv-loop μ-loop
+sub-turns c = search needs
+
+print-count-requires : tie.Need-print-count-requires Inv-loop μ-loop
+print-count-requires c κs = search needs
+
+loop-less-2 : tie.Need-loop-less-2 Inv-loop μ-loop
+loop-less-2 c = search needs
+
+loop-again-2 : tie.Need-loop-again-2 Inv-loop μ-loop
+loop-again-2 c = search needs
+
+loop-less-3 : tie.Need-loop-less-3 Inv-loop μ-loop
+loop-less-3 c = search needs
+
+loop-again-3 : tie.Need-loop-again-3 Inv-loop μ-loop
+loop-again-3 c = search needs
+
+end-count-requires : tie.Need-end-count-requires Inv-loop μ-loop
+end-count-requires c κs = search needs
+
+print-report-requires : tie.Need-print-report-requires Inv-loop μ-loop
+print-report-requires c κs = search needs
 
 same-length : tie.Need-same-length Inv-loop μ-loop
 same-length c = search needs
@@ -36,36 +75,6 @@ same-length-2 c = search needs
 returns : tie.Need-returns Inv-loop μ-loop
 returns c = search needs
 
-slice-aggregate-feed : tie.Need-slice-aggregate-feed Inv-loop μ-loop
-slice-aggregate-feed c = search needs
-
-array-share-prefix-space : tie.Need-array-share-prefix-space Inv-loop μ-loop
-array-share-prefix-space c = search needs
-
-slice-aggregate-feed-2 : tie.Need-slice-aggregate-feed-2 Inv-loop μ-loop
-slice-aggregate-feed-2 c = search needs
-
-feed-requires : tie.Need-feed-requires Inv-loop μ-loop
-feed-requires c κs = search needs
-
-sub-turns : tie.Need-sub-turns Inv-loop μ-loop
-sub-turns c = search needs
-
-loop-less : tie.Need-loop-less Inv-loop μ-loop
-loop-less c = search needs
-
-loop-again : tie.Need-loop-again Inv-loop μ-loop
-loop-again c = search needs
-
-same-length-3 : tie.Need-same-length-3 Inv-loop μ-loop
-same-length-3 c = search needs
-
-same-length-4 : tie.Need-same-length-4 Inv-loop μ-loop
-same-length-4 c = search needs
-
-returns-2 : tie.Need-returns-2 Inv-loop μ-loop
-returns-2 c = search needs
-
 pub play-spec : {M : Type 1} → statement M
 play-spec =
     tie.close
@@ -73,20 +82,23 @@ play-spec =
     Inv-loop
     μ-loop
     large-buffer-requires
-    start-requires
+    evtchn-replay-start-requires
     loop-holds
     slice-aggregate-read-full
     read-full-requires
-    same-length
-    same-length-2
-    returns
-    slice-aggregate-feed
-    array-share-prefix-space
-    slice-aggregate-feed-2
-    feed-requires
-    sub-turns
     loop-less
     loop-again
-    same-length-3
-    same-length-4
-    returns-2)
+    array-share-prefix-space
+    slice-aggregate-evtchn-replay-feed
+    evtchn-replay-feed-requires
+    sub-turns
+    print-count-requires
+    loop-less-2
+    loop-again-2
+    loop-less-3
+    loop-again-3
+    end-count-requires
+    print-report-requires
+    same-length
+    same-length-2
+    returns)

@@ -14,6 +14,9 @@ slice-aggregate-play c = omega (arith, length-take (c .before .before .before .b
 play-requires : tie.Need-play-requires
 play-requires c κs = search needs
 
+play-requires-2 : tie.Need-play-requires-2
+play-requires-2 c κs = search needs
+
 same-length : tie.Need-same-length
 same-length c = search needs
 
@@ -22,9 +25,6 @@ same-length-2 c = search needs
 
 returns : tie.Need-returns
 returns c = search needs
-
-play-requires-2 : tie.Need-play-requires-2
-play-requires-2 c κs = search needs
 
 same-length-3 : tie.Need-same-length-3
 same-length-3 c = search needs
@@ -42,10 +42,10 @@ play-on-spec =
     slice-relend-prefix-play
     slice-aggregate-play
     play-requires
+    play-requires-2
     same-length
     same-length-2
     returns
-    play-requires-2
     same-length-3
     same-length-4
     returns-2)

@@ -1,28 +1,27 @@
 // What is due, and the positions that a line leads to.
 ghost use mathlib.Core.Path.{_≡_};
-ghost use mathlib.Core.List.{_++_};
-ghost use Rattle.machine.specs.Exec.{listOf};
-ghost use Rattle.log.specs.Text.{empty};
+ghost use mathlib.Core.Bool.{false};
+ghost use mathlib.Core.List.{List};
+ghost use Prim.Native.Nat.{ℕ};
+ghost use lib.ListN.{length, take};
+ghost use lib.Dec.{eqb};
+ghost use Rattle.machine.specs.Exec.{World};
 ghost use Rattle.log.specs.Read.{readLine};
-ghost use Rattle.replay.specs.Replay.{nextLine, dueAfter};
-ghost use Rattle.replay.specs.State.{eventText, dueIn, at, missed, metAt};
+ghost use Rattle.evtchn_fifo.specs.Encoded.{unpacked};
+ghost use Rattle.replay.specs.Replay.{nextLine};
+ghost use Rattle.replay.specs.Player.{misses, met};
+ghost use Rattle.replay.specs.State.{dueIn, resultDue, at, playerAt};
 use crate::player::Position;
-use log::event::Logged;
-use log::event::line_of;
-use log::line::text_of;
+use crate::player::named::code_in;
+use crate::player::named::is_answer;
+use evtchn_fifo::encoded::PackedNext;
+use log::event::code_line;
+use log::line::Line;
+use log::line::put_line;
 use log::read::Found;
 use log::read::read_line;
-use log::text::Text;
-use log::text::empty;
-use log::text::is;
-use machine::types::Event;
-use machine::types::Sides;
-
-// The line that is due, and the one due after it; each empty where there is none.
-pub(crate) struct Due {
-    pub first: Text,
-    pub second: Text,
-}
+use log::text::starts_as;
+use machine::types::Side;
 
 // The number of lines with one more; a number that can't move further stays.
 pub(crate) fn next_line(lines: u64) -> u64
@@ -35,88 +34,67 @@ pub(crate) fn next_line(lines: u64) -> u64
     lines
 }
 
-// The line of an event; no byte where it has none.
-fn event_text(event: Event) -> Text
-    ensures { λ r. ⌜ r ≡ eventText event ⌝ }
+// The position after a line that agreed, with so many bytes due.
+pub(crate) fn playing(due: usize, mask: u32, lines: u64) -> Position
+    ensures { λ r. ⌜ r ≡ at due mask lines 0 ⌝ }
 {
-    match line_of(event) {
-        Logged::None => empty(),
-        Logged::Line(line) => text_of(line),
-    }
-}
-
-// What a step's access and answer bring.
-pub(crate) fn due_of(access: Event, answer: Event) -> Due
-    ensures { λ r. ⌜ dueIn (r .first) (r .second) ≡ dueAfter (listOf access ++ listOf answer) ⌝ }
-{
-    let first = event_text(access);
-    let second = event_text(answer);
-    let none = first.len == 0;
-    if none {
-        return Due {
-            first: second,
-            second: empty(),
-        };
-    }
-    Due {
-        first: first,
-        second: second,
-    }
-}
-
-pub(crate) fn playing(sides: Sides, due: Due, lines: u64) -> Position
-    ensures { λ r. ⌜ r ≡ at sides (due .first) (due .second) lines 0 ⌝ }
-{
-    let first = due.first;
-    let second = due.second;
     Position {
-        sides: sides,
-        due: first,
-        next: second,
         lines: lines,
+        line: 0,
+        due: due,
+        mask: mask,
         stop: 0,
     }
 }
 
-pub(crate) fn stopped(sides: Sides, due: Text, lines: u64, stop: u32) -> Position
-    ensures { λ r. ⌜ r ≡ at sides due empty lines stop ⌝ }
+pub(crate) fn stopped(due: usize, lines: u64, stop: u32) -> Position
+    ensures { λ r. ⌜ r ≡ at due 0 lines stop ⌝ }
 {
     Position {
-        sides: sides,
-        due: due,
-        next: empty(),
         lines: lines,
+        line: 0,
+        due: due,
+        mask: 0,
         stop: stop,
     }
 }
 
-// The line is not the one that is due: it differs, or is not of the form.
-pub(crate) fn miss(sides: Sides, due: Text, lines: u64, text: &[u8]) -> Position
-    ensures { λ r. ⌜ r ≡ missed sides due lines (readLine (now (text .entry))) ⌝ }
+// The line is not the one that is due, which has so many bytes: it differs, or is not of the form.
+pub(crate) fn miss(due: usize, lines: u64, text: &[u8]) -> Position
+    ensures { λ r. ⌜ ((w : World) (bytes : List ℕ) → playerAt r bytes w ≡ misses (take due bytes) lines (readLine (now (text .entry)))) ⌝ }
 {
     match read_line(text) {
-        Found::Line(_) => stopped(sides, due, lines, 1),
-        Found::NotOfTheForm => stopped(sides, due, lines, 22),
+        Found::Line(_) => stopped(due, lines, 1),
+        Found::NotOfTheForm => stopped(due, lines, 22),
     }
 }
 
-// The line must be the one that is due.
-pub(crate) fn meet(sides: Sides, due: Due, lines: u64, text: &[u8]) -> Position
-    ensures { λ r. ⌜ r ≡ metAt sides (due .first) (due .second) lines (now (text .entry)) ⌝ }
+// What a call's start or a reply came to: its answer's line is due, if it gave one.
+pub(crate) fn put_answer(due: &mut [u8], side: Side, next: PackedNext) -> usize
+    requires { ⌜ length (now due) ≡ 64 ⌝ }
+    ensures { λ r. ⌜ dueIn (now (due .exit)) r 0 ≡ resultDue side (unpacked next) ⌝ }
 {
-    let first = due.first;
-    let second = due.second;
-    let none = first.len == 0;
-    if none {
-        return miss(sides, first, lines, text);
+    let answered = is_answer(next);
+    if answered {
+        let line = code_line(side, code_in(next));
+        return put_line(due, line);
     }
-    let meets = is(first, text);
+    0
+}
+
+// The line must be the one that is due.
+pub(crate) fn meet(due: &mut [u8], len: usize, mask: u32, lines: u64, text: &[u8]) -> Position
+    requires { ⌜ (length (now due) ≡ 64) × (eqb len 0 ≡ false) ⌝ }
+    ensures { λ r. ⌜ ((w : World) → playerAt r (now (due .exit)) w ≡ met w (dueIn (now (due .entry)) len mask) lines (now (text .entry))) ⌝ }
+{
+    let meets = starts_as(due, len, text);
     if meets {
-        let left = Due {
-            first: second,
-            second: empty(),
-        };
-        return playing(sides, left, next_line(lines));
+        let alone = mask == 0;
+        if alone {
+            return playing(0, 0, next_line(lines));
+        }
+        let answer = put_line(due, Line::Answer(Side::Guest, 0));
+        return playing(answer, 0, next_line(lines));
     }
-    miss(sides, first, lines, text)
+    miss(len, lines, text)
 }

@@ -1,10 +1,11 @@
-//! The C boundary as a Rust host has it: safe calls over byte slices, what they give, and an
-//! independent decoder of records and ledgers.
+//! The C boundary as a Rust host has it: safe calls over byte slices, what they give, an
+//! independent decoder of records and ledgers, and the replay of a log.
 
 pub mod calls;
 pub mod encoded;
 pub mod ledger;
 mod raw;
 pub mod records;
+pub mod replay;
 
 pub use encoded::Encoded;

@@ -1,6 +1,7 @@
-//! The symbols of the archive. A slice is a pointer and a length.
+//! The symbols of the archive. A slice is a pointer and a length, an array a pointer.
 
 use super::encoded::Encoded;
+use super::replay::{Position, Report};
 
 extern "C" {
     pub fn evtchn_fifo_layout() -> u32;
@@ -70,6 +71,31 @@ extern "C" {
     pub fn evtchn_fifo_service_due(guest: *const u8, length: usize) -> Encoded;
     pub fn evtchn_fifo_mask(port: u64, words: u64) -> Encoded;
     pub fn evtchn_fifo_tell(guest: *mut u8, length: usize, words: u64) -> Encoded;
+    pub fn evtchn_replay_start(
+        domain: *mut u8,
+        ledger: *mut u8,
+        ledger_bytes: usize,
+        guest: *mut u8,
+        words: *mut u32,
+        words_count: usize,
+        block: *mut u32,
+        due: *mut u8,
+    ) -> Position;
+    pub fn evtchn_replay_feed(
+        position: Position,
+        domain: *mut u8,
+        ledger: *mut u8,
+        ledger_bytes: usize,
+        guest: *mut u8,
+        words: *mut u32,
+        words_count: usize,
+        block: *mut u32,
+        line: *mut u8,
+        due: *mut u8,
+        text: *const u8,
+        text_length: usize,
+    ) -> Position;
+    pub fn evtchn_replay_report(position: Position) -> Report;
 }
 
 #[cfg(test)]
@@ -77,6 +103,7 @@ extern "C" {
 mod tests {
     //! NULL is allowed where the length is 0.
     use super::*;
+    use std::mem::size_of;
     use std::ptr::{null, null_mut};
 
     #[test]
@@ -104,5 +131,46 @@ mod tests {
             evtchn_fifo_raise(domain.as_mut_ptr(), domain.len(), null_mut(), 0, 5)
         };
         assert_eq!((given.code, given.value), (14, 0));
+    }
+
+    #[test]
+    fn null_words_ledger_and_text_of_a_replay() {
+        let (mut domain, mut guest, mut block) = ([1; 100], [1; 88], [1; 18]);
+        let (mut line, mut due) = ([1; 64], [1; 64]);
+        let (domain, guest, block) = (domain.as_mut_ptr(), guest.as_mut_ptr(), block.as_mut_ptr());
+        let (line, due) = (line.as_mut_ptr(), due.as_mut_ptr());
+        let (ledger, words) = (null_mut(), null_mut());
+        // SAFETY: the arrays are lent, the slices have nothing.
+        let position = unsafe {
+            let position = evtchn_replay_start(domain, ledger, 0, guest, words, 0, block, due);
+            evtchn_replay_feed(
+                position,
+                domain,
+                ledger,
+                0,
+                guest,
+                words,
+                0,
+                block,
+                line,
+                due,
+                null(),
+                0,
+            )
+        };
+        let header = Position {
+            lines: 0,
+            line: 0,
+            due: 11,
+            mask: 0,
+            stop: 0,
+        };
+        assert_eq!(position, header);
+    }
+
+    #[test]
+    fn sizes_of_a_position_and_a_report() {
+        let sizes = (size_of::<Position>(), size_of::<Report>());
+        assert_eq!(sizes, (32, 16));
     }
 }

@@ -1,6 +1,7 @@
 //! A run of the model with what it prints.
 
-use crate::model::{log, Entry, Event, Model, Side, Step, World};
+use crate::model::log::{self, Line, LoggedCall};
+use crate::model::{Entry, Event, Model, Side, Step, World};
 
 /// Most accesses of a call.
 const MOST: usize = 9;
@@ -10,6 +11,8 @@ pub struct Run {
     /// The world.
     pub world: World,
     events: Vec<Event>,
+    /// The log's lines, with those of calls.
+    lines: Vec<Line>,
 }
 
 impl Run {
@@ -18,7 +21,18 @@ impl Run {
         Run {
             world: World::fresh(Model::default(), words, words),
             events: Vec::new(),
+            lines: vec![Line::Header],
         }
+    }
+
+    /// The log without call lines.
+    pub fn log(&self) -> String {
+        log::log(&self.events)
+    }
+
+    /// The log with a line before what each call's start brings.
+    pub fn log_with_calls(&self) -> String {
+        self.lines.iter().map(|line| format!("{line}\n")).collect()
     }
 
     /// The title, the log, and the counts of its answers.
@@ -28,12 +42,15 @@ impl Run {
             Event::Accessed(_) | Event::Told(_) => None,
         };
         let counts: String = self.events.iter().filter_map(count).collect();
-        format!("{title}\n{}counts{counts}\n", log::log(&self.events))
+        format!("{title}\n{}counts{counts}\n", self.log())
     }
 
     /// One step.
     pub fn step(&mut self, step: Step) -> &mut Self {
         let stepped = self.world.step(step);
+        self.lines.extend(LoggedCall::of(step).map(Line::Call));
+        self.lines
+            .extend(stepped.events.iter().filter_map(Line::of));
         self.events.extend_from_slice(&stepped.events);
         self
     }

@@ -5,10 +5,10 @@ use Rattle.evtchn_replay.proofs.print.print_text.Statement.{statement}
 use Rattle.evtchn_replay.proofs.print.print_text.Tie as tie
 
 abbrev Inv-loop : tie.InvT-loop
-Inv-loop none bytes len i₀ i = i ≤ 64
+Inv-loop bytes len none i₀ i = i ≤ 64
 
 abbrev μ-loop : tie.MeasureT-loop
-μ-loop none bytes len i₀ i = 64 - i
+μ-loop bytes len none i₀ i = 64 - i
 
 write-all-requires : tie.Need-write-all-requires Inv-loop μ-loop
 write-all-requires c κs = search needs
@@ -19,8 +19,8 @@ returns c = search needs
 loop-holds : tie.Need-loop-holds Inv-loop μ-loop
 loop-holds c = search needs
 
-array-read-byte : tie.Need-array-read-byte Inv-loop μ-loop
-array-read-byte c = search needs
+element-copy-out-byte : tie.Need-element-copy-out-byte Inv-loop μ-loop
+element-copy-out-byte c = search needs
 
 shown-requires : tie.Need-shown-requires Inv-loop μ-loop
 shown-requires c κs = search needs
@@ -52,7 +52,7 @@ print-text-spec =
     write-all-requires
     returns
     loop-holds
-    array-read-byte
+    element-copy-out-byte
     shown-requires
     slice-aggregate-write-all
     write-all-requires-2

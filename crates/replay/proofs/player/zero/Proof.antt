@@ -1,3 +1,4 @@
+-- `replay::player::zero` meets its contract. Assumes nothing.
 -- `replay::player::zero` meets its contract. The loop's invariant: each word below i is 0. Assumes nothing.
 use Prim.Native.Nat.{ℕ, _≤_, _<_, _-_}
 use mathlib.Core.Path.{_≡_, refl}

@@ -7,14 +7,13 @@
 mod cases;
 mod guards;
 mod histories;
-mod settings;
 mod threads;
 
 use evtchn_fifo_host::boundary::{calls, records};
 use evtchn_fifo_host::crash;
 use evtchn_fifo_host::differential::large;
 use evtchn_fifo_host::report::Report;
-use settings::Settings;
+use evtchn_fifo_host::settings::Settings;
 use std::process::ExitCode;
 
 fn main() -> ExitCode {

@@ -1,6 +1,6 @@
 //! The cost of one call of the model, whole, with real atomic accesses: `model_bench CALL REPEATS`.
-//! Lines per second of a replay: `model_bench --replay FILE`, of a log that
-//! `model_bench --write-log FILE LINES` writes.
+//! Lines per second of a replay, by the library and by the model: `model_bench --replay FILE`, of a
+//! log that `model_bench --write-log FILE LINES` writes.
 //!
 //! The six calls of `host/c/bench/bench.c`, measured as it does: each repeat puts back the few words
 //! that calls change, makes the call and compares its answer, its count of accesses and the words

@@ -1,21 +1,27 @@
-//! Compares the proved program `evtchn_replay` with the model's replay on good and damaged logs,
-//! and ends with a line `N passed, M failed`: a check for each log, each row of what was met and
-//! each fault seeded in the model.
+//! Compares the library's replay with the model's on good and damaged logs, and ends with a line
+//! `N passed, M failed`.
 //!
-//! `EVTCHN_REPLAY` names another program than the repository's. The program lends 128 pages and an
-//! entry for every port; the model plays over the same.
+//! - `linked`: a million logs by the functions that a C host links
+//! - `printed`: some thousand logs by the proved program `evtchn_replay`, by what it prints
+//! - `edges`: logs at edges, for both
+//! - `cases`: the stored logs of crate `cases` with call lines, by both
+//!
+//! `EVTCHN_REPLAY` names another program than the repository's, `EVTCHN_FIFO_CASES` another stored
+//! output of crate `cases`. The program lends 128 pages and an entry for every port; the model
+//! plays over the same. `SEED=n` starts the logs of `linked` from another seed; `MINUTES=n` plays
+//! them alone for n minutes from a seed that the clock gives.
 
-mod campaign;
+mod cases;
 mod edges;
-mod faults;
-mod logs;
-mod program;
-mod text;
+mod linked;
+mod printed;
 
-use campaign::Campaign;
+use evtchn_fifo_host::cases::stored;
 use evtchn_fifo_host::corpus::Shape;
+use evtchn_fifo_host::crash;
 use evtchn_fifo_host::report::Report;
-use program::Program;
+use evtchn_fifo_host::settings::Settings;
+use printed::Program;
 use std::process::ExitCode;
 
 /// What the program lends.
@@ -25,17 +31,28 @@ const LENT: Shape = Shape {
 };
 
 fn main() -> ExitCode {
-    let program = match Program::from_environment() {
-        Ok(program) => program,
+    match run() {
+        Ok(report) => report.finish(),
         Err(text) => {
             eprintln!("replay_corpus: {text}");
-            return ExitCode::FAILURE;
+            ExitCode::FAILURE
         }
-    };
+    }
+}
+
+fn run() -> Result<Report, String> {
+    let settings = Settings::from_environment()?;
+    crash::install();
     let mut report = Report::default();
-    let mut campaign = Campaign::new(&program);
-    logs::play(&mut campaign);
-    campaign.judge(&mut report);
-    faults::run(campaign.played(), &mut report);
-    report.finish()
+    match settings.minutes {
+        Some(minutes) => linked::run_for(settings.seed, minutes, &mut report),
+        None => {
+            let program = Program::from_environment()?;
+            let stored = stored()?;
+            linked::run(settings.seed, &mut report);
+            printed::run(&program, &mut report);
+            cases::run(&program, &stored, settings.seed, &mut report);
+        }
+    }
+    Ok(report)
 }

@@ -43,6 +43,40 @@ pub enum Line {
 }
 
 impl LoggedCall {
+    /// The call that a step starts. None where it starts none, and where a line can't say how: an
+    /// argument of 2^32 or more, or a mask by another number of words than the guest's.
+    pub fn of(step: Step) -> Option<LoggedCall> {
+        let decimal = |number| u32::try_from(number).ok();
+        Some(match step {
+            Step::InitControl {
+                vcpu,
+                frame,
+                offset,
+                ..
+            } => LoggedCall::InitControl {
+                vcpu: decimal(vcpu)?,
+                frame: decimal(frame)?,
+                offset: decimal(offset)?,
+            },
+            Step::ExpandArray { frame, .. } => LoggedCall::ExpandArray {
+                frame: decimal(frame)?,
+            },
+            Step::Bind(port) => LoggedCall::Bind(decimal(port)?),
+            Step::Close(port) => LoggedCall::Close(decimal(port)?),
+            Step::SetPriority { port, priority } => LoggedCall::SetPriority {
+                port: decimal(port)?,
+                priority: decimal(priority)?,
+            },
+            Step::Raise(port) => LoggedCall::Raise(decimal(port)?),
+            Step::Unmask(port) => LoggedCall::Unmask(decimal(port)?),
+            Step::Service => LoggedCall::Service,
+            Step::Mask(port) => LoggedCall::Mask(decimal(port)?),
+            Step::MaskWithin { .. } | Step::Tell(_) | Step::Access(_) | Step::HandBack(..) => {
+                return None
+            }
+        })
+    }
+
     /// The side whose call it is.
     pub fn side(self) -> Side {
         match self {

@@ -1,5 +1,6 @@
 -- `replay::player::due::miss` meets its contract. Assumes nothing.
-use Rattle.replay.specs.State.{missed}
+use Rattle.replay.proofs.DueLaws.{missed-line, missed-form}
+use mathlib.Core.Path.{sym, _∙_}
 use borrow.Author.Needs.{needs}
 use Rattle.replay.proofs.player.due.miss.Statement.{statement}
 use Rattle.replay.proofs.player.due.miss.Tie as tie
@@ -20,12 +21,10 @@ stopped-requires-2 : tie.Need-stopped-requires-2
 stopped-requires-2 c κs = search needs
 
 returns : tie.Need-returns
-unfolding missed
-returns c = simp (← (c .before .before .before .read-line .ensures), c .before .enum-told .given .1, c .stopped .ensures)
+returns c = λ w bytes. missed-line _ bytes _ _ w _ _ (sym (c .before .before .before .read-line .ensures) ∙ c .before .enum-told .given .1) (c .stopped .ensures)
 
 returns-2 : tie.Need-returns-2
-unfolding missed
-returns-2 c = simp (← (c .before .before .before .read-line .ensures), c .before .enum-told2 .given .1, c .stopped2 .ensures)
+returns-2 c = λ w bytes. missed-form _ bytes _ _ w _ (sym (c .before .before .before .read-line .ensures) ∙ c .before .enum-told2 .given .1) (c .stopped2 .ensures)
 
 pub miss-spec : {M : Type 1} → statement M
 miss-spec =

@@ -1,5 +1,5 @@
 -- `replay::player::line::play_line` meets its contract. Assumes nothing.
-use Rattle.replay.proofs.PlayerLaws.{quick-over, quick-open, quick-meet}
+use Rattle.replay.proofs.OpenLaws.{quick-open, quick-meet}
 use mathlib.Core.Path.{_∙_}
 use borrow.Author.Needs.{needs}
 use Rattle.replay.proofs.player.line.play_line.Statement.{statement}
@@ -17,17 +17,26 @@ same-length-2 c = search needs
 same-length-3 : tie.Need-same-length-3
 same-length-3 c = search needs
 
+same-length-4 : tie.Need-same-length-4
+same-length-4 c = search needs
+
+same-length-5 : tie.Need-same-length-5
+same-length-5 c = search needs
+
+same-length-6 : tie.Need-same-length-6
+same-length-6 c = search needs
+
 returns : tie.Need-returns
-returns c = c .before .before .before .before .before .before .«open» .ensures ∙ quick-open _ _ _ _ _ (c .before .before .before .before .before .before .before .before .before .before .before .before .before .before .before .if1 .taken) (c .before .before .before .before .before .before .before .before .before .before .if2 .taken)
+returns c = c .before .before .before .before .before .before .before .before .before .before .before .before .«open» .ensures ∙ quick-open _ _ _ _ (c .before .before .before .before .before .before .before .before .before .before .before .before .before .before .before .before .before .before .before .before .before .before .before .before .before .before .before .pre .3) (c .before .before .before .before .before .before .before .before .before .before .before .before .before .before .before .before .before .before .before .if1 .taken)
 
 meet-requires : tie.Need-meet-requires
 meet-requires c κs = search needs
 
-returns-2 : tie.Need-returns-2
-returns-2 c = simp (c .meet .ensures) (quick-meet _ _ _ _ _ (c .before .before .before .before .before .before .if1 .taken) (c .before .if2 .left))
+same-length-7 : tie.Need-same-length-7
+same-length-7 c = search needs
 
-returns-3 : tie.Need-returns-3
-returns-3 c = quick-over _ _ _ _ _ (c .if1 .left)
+returns-2 : tie.Need-returns-2
+returns-2 c = c .before .before .meet .ensures _ ∙ quick-meet _ _ _ _ (c .before .before .before .before .before .before .before .before .before .before .before .before .pre .3) (c .before .before .before .before .if1 .left)
 
 pub play-line-spec : {M : Type 1} → statement M
 play-line-spec =
@@ -37,7 +46,10 @@ play-line-spec =
     same-length
     same-length-2
     same-length-3
+    same-length-4
+    same-length-5
+    same-length-6
     returns
     meet-requires
-    returns-2
-    returns-3)
+    same-length-7
+    returns-2)
