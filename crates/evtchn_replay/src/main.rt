@@ -3,7 +3,7 @@
 // was due in two more.
 mod print;
 
-ghost use Prim.Native.Nat.{_≤_};
+ghost use Prim.Native.Nat.{_≤_, _<_};
 use replay::player::evtchn_replay_feed;
 use replay::player::evtchn_replay_start;
 
@@ -58,7 +58,21 @@ fn counts() -> bool {
     3 < os::arg_count()
 }
 
-// Plays what the descriptor gives, over the first n words.
+// The turns after one that read so many bytes: none at the log's end, and none where the replay has stopped.
+fn turns_left(turns: u64, bytes: usize, stop: u32) -> u64
+    requires { ⌜ 0 < turns ⌝ }
+    ensures { λ r. ⌜ r < turns ⌝ }
+{
+    if bytes == 0 {
+        return 0;
+    }
+    if stop == 0 {
+        return turns - 1;
+    }
+    0
+}
+
+// Plays what the descriptor gives, up to its end or to the first line that does not agree, and prints the report.
 fn play(fd: i32, ledger: &mut [u8], words: &mut [u32], shown: bool) {
     let mut domain = [0u8; 100];
     let mut guest = [0u8; 88];
@@ -77,30 +91,22 @@ fn play(fd: i32, ledger: &mut [u8], words: &mut [u32], shown: bool) {
     let mut turns: u64 = 1099511627776;
     while turns > 0 {
         let n = io::read_full(fd, &mut space);
-        if n == 0 {
-            turns = 0;
-        } else {
-            position = evtchn_replay_feed(
-                position,
-                &mut domain,
-                ledger,
-                &mut guest,
-                words,
-                &mut block,
-                &mut line,
-                &mut due,
-                &space[..n],
-            );
-            turns -= 1;
-            if shown && turns % 128 == 0 {
-                print::print_count(position.lines);
-            }
-        }
+        position = evtchn_replay_feed(
+            position,
+            &mut domain,
+            ledger,
+            &mut guest,
+            words,
+            &mut block,
+            &mut line,
+            &mut due,
+            &space[..n],
+        );
+        print::count(shown, turns, position.lines);
+        turns = turns_left(turns, n, position.stop);
     }
-    if shown {
-        print::end_count();
-    }
-    print::print_report(position, &line, &due);
+    print::end_count(shown);
+    print::report(position, &line, &due);
 }
 
 // The same over the first n words.

@@ -42,15 +42,19 @@ fn print_difference(position: Position, line: &[u8; 64], due: &[u8; 64]) {
     io::write_all(1, b"\n");
 }
 
-// A counter of lines, written over the last one.
-pub(crate) fn print_count(lines: u64) {
-    io::write_all(2, b"\r");
-    io::print_decimal(2, lines);
-    io::write_all(2, b" lines");
+// A counter of lines, where one is shown: in one turn of 128, over the last one.
+pub(crate) fn count(shown: bool, turns: u64, lines: u64) {
+    if shown && turns % 128 == 0 {
+        io::write_all(2, b"\r");
+        io::print_decimal(2, lines);
+        io::write_all(2, b" lines");
+    }
 }
 
-pub(crate) fn end_count() {
-    io::write_all(2, b"\r                          \r");
+pub(crate) fn end_count(shown: bool) {
+    if shown {
+        io::write_all(2, b"\r                          \r");
+    }
 }
 
 fn print_line(number: u64, what: &[u8]) {
@@ -59,10 +63,10 @@ fn print_line(number: u64, what: &[u8]) {
     io::write_all(1, what);
 }
 
-pub(crate) fn print_report(position: Position, line: &[u8; 64], due: &[u8; 64]) {
-    let report = evtchn_replay_report(position);
-    let kind = report.kind;
-    let number = report.line;
+pub(crate) fn report(position: Position, line: &[u8; 64], due: &[u8; 64]) {
+    let result = evtchn_replay_report(position);
+    let kind = result.kind;
+    let number = result.line;
     match kind {
         0 => {
             io::write_all(1, b"all agree, ");

@@ -27,12 +27,6 @@ slice-aggregate-read-full c = search needs
 read-full-requires : tie.Need-read-full-requires Inv-loop μ-loop
 read-full-requires c κs = search needs
 
-loop-less : tie.Need-loop-less Inv-loop μ-loop
-loop-less c = search needs
-
-loop-again : tie.Need-loop-again Inv-loop μ-loop
-loop-again c = search needs
-
 array-share-prefix-space : tie.Need-array-share-prefix-space Inv-loop μ-loop
 array-share-prefix-space c = search needs
 
@@ -42,29 +36,23 @@ slice-aggregate-evtchn-replay-feed c = search needs
 evtchn-replay-feed-requires : tie.Need-evtchn-replay-feed-requires Inv-loop μ-loop
 evtchn-replay-feed-requires c κs = search needs
 
-sub-turns : tie.Need-sub-turns Inv-loop μ-loop
-sub-turns c = search needs
+count-requires : tie.Need-count-requires Inv-loop μ-loop
+count-requires c κs = search needs
 
-print-count-requires : tie.Need-print-count-requires Inv-loop μ-loop
-print-count-requires c κs = search needs
+turns-left-requires : tie.Need-turns-left-requires Inv-loop μ-loop
+turns-left-requires c κs = search needs
 
-loop-less-2 : tie.Need-loop-less-2 Inv-loop μ-loop
-loop-less-2 c = search needs
+loop-less : tie.Need-loop-less Inv-loop μ-loop
+loop-less c = search needs
 
-loop-again-2 : tie.Need-loop-again-2 Inv-loop μ-loop
-loop-again-2 c = search needs
-
-loop-less-3 : tie.Need-loop-less-3 Inv-loop μ-loop
-loop-less-3 c = search needs
-
-loop-again-3 : tie.Need-loop-again-3 Inv-loop μ-loop
-loop-again-3 c = search needs
+loop-again : tie.Need-loop-again Inv-loop μ-loop
+loop-again c = search needs
 
 end-count-requires : tie.Need-end-count-requires Inv-loop μ-loop
 end-count-requires c κs = search needs
 
-print-report-requires : tie.Need-print-report-requires Inv-loop μ-loop
-print-report-requires c κs = search needs
+report-requires : tie.Need-report-requires Inv-loop μ-loop
+report-requires c κs = search needs
 
 same-length : tie.Need-same-length Inv-loop μ-loop
 same-length c = search needs
@@ -86,19 +74,15 @@ play-spec =
     loop-holds
     slice-aggregate-read-full
     read-full-requires
-    loop-less
-    loop-again
     array-share-prefix-space
     slice-aggregate-evtchn-replay-feed
     evtchn-replay-feed-requires
-    sub-turns
-    print-count-requires
-    loop-less-2
-    loop-again-2
-    loop-less-3
-    loop-again-3
+    count-requires
+    turns-left-requires
+    loop-less
+    loop-again
     end-count-requires
-    print-report-requires
+    report-requires
     same-length
     same-length-2
     returns)
