@@ -1,6 +1,6 @@
 /*
  * evtchn_fifo_trace: writes the log of a domain, a line for each call, access and answer, as its calls are made. The program
- * evtchn_replay reads such a log, makes the calls again, and compares.
+ * evtchn_replay and the functions of evtchn_replay.h read such a log, make the calls again, and compare.
  *
  *     evtchn_fifo_trace trace = {.write = evtchn_fifo_trace_to_file, .context = file};
  *     evtchn_fifo_trace_header(&trace);
