@@ -19,7 +19,7 @@ LOG = -
 PAGES = 128
 
 archive = target/lib/libevtchn_fifo.a
-library = word calls machine log queue claims evtchn_fifo interleaving exported replay
+library = word calls machine cables log queue claims evtchn_fifo evtchn_cables interleaving exported replay
 proved = $(shell find $(library:%=crates/%) -name '*.rt' -o -name '*.antt') crates.txt tools/archives
 
 test:

@@ -50,6 +50,22 @@ isFree owner.Close = false
 isFree owner.Raise = false
 isFree owner.Unmask = false
 
+-- the port of the close whose reply is due, which changes its entry; 0 where the call under way is no close
+abbrev pub closingBy : Owner → Stage → ℕ → ℕ
+closingBy owner.Close stage.First p = p
+closingBy owner.Close stage.R2 p = 0
+closingBy owner.Close stage.R3 p = 0
+closingBy owner.Close stage.R4 p = 0
+closingBy owner.Close stage.R5 p = 0
+closingBy owner.Close stage.R6 p = 0
+closingBy owner.None s p = 0
+closingBy owner.Bind s p = 0
+closingBy owner.Raise s p = 0
+closingBy owner.Unmask s p = 0
+
+abbrev pub closingPort : Call → ℕ
+closingPort c = closingBy (c .owner) (c .stage) (c .port .0)
+
 abbrev pub callAt : Owner → Stage → Port → Queue → ℕ → Call
 callAt o s p q count = record { owner = o; stage = s; port = p; queue = q; word = 0; tries = 0; count = count }
 

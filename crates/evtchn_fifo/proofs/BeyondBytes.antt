@@ -37,10 +37,10 @@ use Rattle.evtchn_fifo.specs.Claims.{Beyond, BothBeyond, BeyondStays}
 
 -- ---- what is written stays below a size
 
-stays : {size : ℕ} {s : List ℕ} → Beyond size s s
+pub stays : {size : ℕ} {s : List ℕ} → Beyond size s s
 stays = record { count = refl; bytes = refl }
 
-then : {size : ℕ} {a b c : List ℕ} → Beyond size a b → Beyond size b c → Beyond size a c
+pub then : {size : ℕ} {a b c : List ℕ} → Beyond size a b → Beyond size b c → Beyond size a c
 then x y = record { count = y .count ∙ x .count; bytes = y .bytes ∙ x .bytes }
 
 module _ (size : ℕ) where
@@ -65,7 +65,7 @@ module _ (size : ℕ) where
   value : (base : ℕ) (s : List ℕ) (q v : ℕ) → base + 64 ≤ size → Beyond size s (putValue base s q v)
   value base s q v h = value-by base s q v (ltb q 16) refl h
 
-four : (size : ℕ) (s : List ℕ) (i v : ℕ) → i + 4 ≤ size → Beyond size s (putNumber 3 s i v)
+pub four : (size : ℕ) (s : List ℕ) (i v : ℕ) → i + 4 ≤ size → Beyond size s (putNumber 3 s i v)
 four size s i v h = number size 3 s i v h
 
 call : (r : List ℕ) (c : Call) → Beyond domainSize r (putCall r c)

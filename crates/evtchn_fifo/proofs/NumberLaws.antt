@@ -1,6 +1,6 @@
 -- Numbers in bytes: what was written is read back, and nothing else changes. Each law holds for numbers of every size.
 -- Assumes nothing.
-use Prim.Native.Nat.{ℕ, zero, suc, _+_, _*_, _/_, _%_, _<_, _≤_}
+use Prim.Native.Nat.{ℕ, zero, suc, _+_, _-_, _*_, _/_, _%_, _<_, _≤_}
 use mathlib.Core.Path.{_≡_, refl, sym, ap, _∙_}
 use mathlib.Core.Bool.{Bool, true, false}
 use mathlib.Core.List.{List, [], _∷_}
@@ -8,10 +8,10 @@ use mathlib.Core.Logic.{_⊎_, inl, inr, ⊎-elim}
 use lib.ListN.{length, getD, set, length-set, List·getD-eq-default}
 use lib.Seq.{getD-set-same, getD-set-other, set-out, set-getD}
 use lib.Dec.{leb, ltb, eqb}
-use borrow.Author.Tests.{leb-true, ltb-true, ltb-false, eqb-false}
+use borrow.Author.Tests.{leb-true, leb-false, ltb-true, ltb-false, eqb-false, le-leb, lt-leb}
 use native.Mathlib.Omega.{arith}
 use native.Mathlib.Nat.{not-suc-le-zero}
-use Rattle.evtchn_fifo.specs.Numbers.{numberAt, putNumber, numbersAt, putNumbers, valueAt, putValue}
+use Rattle.evtchn_fifo.specs.Numbers.{numberAt, putNumber, numberIn, putNumberIn, numbersAt, putNumbers, valueAt, putValue}
 
 -- ---- one number
 
@@ -189,3 +189,39 @@ sixteen-back size l s i n h t =
     let a = leb-true size (length s) h in
     let b = leb-true (i + 64) size t in
     ap (λ (m : ℕ). numbersAt 3 (putNumbers 3 s i l) i m) (sym n) ∙ puts-back l 3 s i (rw n (omega arith))
+
+-- ---- a number at any place: whether its four bytes are there, as the code tests it
+
+fits : (i size : ℕ) → leb 4 size ≡ true → leb i (size - 4) ≡ true → leb (i + 4) size ≡ true
+fits i size some near = le-leb (i + 4) size (omega (arith, leb-true 4 size some, leb-true i (size - 4) near))
+
+fits-not : (i size : ℕ) → leb 4 size ≡ true → leb i (size - 4) ≡ false → leb (i + 4) size ≡ false
+fits-not i size some far = lt-leb (i + 4) size (omega (arith, leb-true 4 size some, leb-false i (size - 4) far))
+
+fits-nowhere : (i size : ℕ) → leb 4 size ≡ false → leb (i + 4) size ≡ false
+fits-nowhere i size none = lt-leb (i + 4) size (omega (arith, leb-false 4 size none))
+
+module _ (s : List ℕ) (i : ℕ) where
+  pub number-there : {r : ℕ} → leb 4 (length s) ≡ true → leb i (length s - 4) ≡ true → r ≡ numberAt 3 s i → r ≡ numberIn s i
+  unfolding numberIn
+  number-there some near e = e ∙ sym (simp (fits i (length s) some near))
+
+  pub number-far : leb 4 (length s) ≡ true → leb i (length s - 4) ≡ false → _≡_ {A = ℕ} 0 (numberIn s i)
+  unfolding numberIn
+  number-far some far = simp (fits-not i (length s) some far)
+
+  pub number-nowhere : leb 4 (length s) ≡ false → _≡_ {A = ℕ} 0 (numberIn s i)
+  unfolding numberIn
+  number-nowhere none = simp (fits-nowhere i (length s) none)
+
+  pub put-there : (v : ℕ) {t : List ℕ} → leb 4 (length s) ≡ true → leb i (length s - 4) ≡ true → t ≡ putNumber 3 s i v → t ≡ putNumberIn s i v
+  unfolding putNumberIn
+  put-there v some near e = e ∙ sym (simp (fits i (length s) some near))
+
+  pub put-far : (v : ℕ) → leb 4 (length s) ≡ true → leb i (length s - 4) ≡ false → s ≡ putNumberIn s i v
+  unfolding putNumberIn
+  put-far v some far = simp (fits-not i (length s) some far)
+
+  pub put-nowhere : (v : ℕ) → leb 4 (length s) ≡ false → s ≡ putNumberIn s i v
+  unfolding putNumberIn
+  put-nowhere v none = simp (fits-nowhere i (length s) none)

@@ -9,7 +9,7 @@ use lib.ListN.{length}
 use lib.Dec.{eqb, ltb}
 use Rattle.word.specs.Word.{portAt, queueAt}
 use Rattle.word.specs.Entry.{priority, lastQueue}
-use Rattle.calls.specs.Records.{isFree, idleCall}
+use Rattle.calls.specs.Records.{isFree, idleCall, closingPort}
 use Rattle.calls.specs.declared.types.Owner.{Owner}
 use Rattle.calls.specs.declared.types.Owner.the-variants as owner
 use Rattle.calls.specs.declared.types.Stage.{Stage}
@@ -73,6 +73,10 @@ givenAt r = not (eqb (numberAt 3 r 0) 0)
 abbrev pub pagesAt : List ℕ → ℕ
 pagesAt r = numberAt 3 r 4
 
+-- not in a record that is too short
+abbrev pub givenIn : List ℕ → Bool
+givenIn r = cond (ltb (length r) domainSize) false (givenAt r)
+
 -- none of a record that is too short
 abbrev pub pagesIn : List ℕ → ℕ
 pagesIn r = cond (ltb (length r) domainSize) 0 (pagesAt r)
@@ -85,6 +89,10 @@ ownerAt r = cond (ltb (numberAt 3 r 76) 6) (ownerOf (numberAt 3 r 72)) owner.Non
 
 unfoldable pub callAt : List ℕ → Call
 callAt r = record { owner = ownerAt r; stage = stageOf (numberAt 3 r 76); port = portAt (numberAt 3 r 80); queue = queueAt (numberAt 3 r 84); word = numberAt 3 r 88; tries = numberAt 3 r 92; count = numberAt 3 r 96 }
+
+-- the port of the close whose reply is due; 0: none is, or the record is too short
+abbrev pub closingIn : List ℕ → ℕ
+closingIn r = cond (ltb (length r) domainSize) 0 (closingPort (callAt r))
 
 unfoldable pub viewAt : List ℕ → ℕ → View
 viewAt r e = record { tail = tailAt r (priority e); former = tailAt r (lastQueue e) }

@@ -3,8 +3,8 @@
 use Prim.Native.Nat.{ℕ, zero, suc, _+_, _*_, _/_, _%_}
 use mathlib.Core.Bool.{cond}
 use mathlib.Core.List.{List, [], _∷_}
-use lib.ListN.{getD, set}
-use lib.Dec.{ltb}
+use lib.ListN.{length, getD, set}
+use lib.Dec.{ltb, leb}
 
 unfoldable pub numberAt : ℕ → List ℕ → ℕ → ℕ
 numberAt zero s i = getD s i 0
@@ -14,6 +14,13 @@ numberAt (suc k) s i = getD s i 0 + 256 * numberAt k s (i + 1)
 unfoldable pub putNumber : ℕ → List ℕ → ℕ → ℕ → List ℕ
 putNumber zero s i v = set s i v
 putNumber (suc k) s i v = putNumber k (set s i (v % 256)) (i + 1) (v / 256)
+
+-- a number of four bytes at any place: 0, and nothing put, where the bytes end before it does
+unfoldable pub numberIn : List ℕ → ℕ → ℕ
+numberIn s i = cond (leb (i + 4) (length s)) (numberAt 3 s i) 0
+
+unfoldable pub putNumberIn : List ℕ → ℕ → ℕ → List ℕ
+putNumberIn s i v = cond (leb (i + 4) (length s)) (putNumber 3 s i v) s
 
 -- n numbers, one after another
 unfoldable pub numbersAt : ℕ → List ℕ → ℕ → ℕ → List ℕ

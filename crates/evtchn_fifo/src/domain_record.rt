@@ -4,7 +4,7 @@ ghost use mathlib.Core.Bool.{false, not};
 ghost use Prim.Native.Nat.{_≤_};
 ghost use lib.ListN.{length};
 ghost use Rattle.calls.specs.Records.{isFree};
-ghost use Rattle.evtchn_fifo.specs.DomainRecord.{domainSize, ownerCode, ownerOf, stageCode, stageOf, givenCode, givenAt, pagesIn, ownerAt, callAt, putCall, putDomain};
+ghost use Rattle.evtchn_fifo.specs.DomainRecord.{domainSize, ownerCode, ownerOf, stageCode, stageOf, givenCode, givenAt, givenIn, pagesIn, ownerAt, callAt, closingIn, putCall, putDomain};
 ghost use Rattle.evtchn_fifo.specs.InPlace.{underWay};
 use crate::layout;
 use crate::numbers;
@@ -84,6 +84,17 @@ pub(crate) fn given_at(domain: &[u8]) -> bool
     given != 0
 }
 
+// Whether the control block is given; not where the record is too short.
+pub fn given_in(domain: &[u8]) -> bool
+    ensures { λ r. ⌜ r ≡ givenIn (now (domain .entry)) ⌝ }
+{
+    let short = domain.len() < layout::DOMAIN_SIZE;
+    if short {
+        return false;
+    }
+    given_at(domain)
+}
+
 // The array's pages; none where the record is too short.
 pub fn pages_in(domain: &[u8]) -> u32
     ensures { λ r. ⌜ r ≡ pagesIn (now (domain .entry)) ⌝ }
@@ -148,6 +159,26 @@ pub(crate) fn call_at(domain: &[u8]) -> Call
         tries: tries,
         count: count,
     }
+}
+
+// The port of the close whose reply is due; 0 where the call under way is no close, and where the record is too short.
+pub fn closing_in(domain: &[u8]) -> u32
+    ensures { λ r. ⌜ r ≡ closingIn (now (domain .entry)) ⌝ }
+{
+    let short = domain.len() < layout::DOMAIN_SIZE;
+    if short {
+        return 0;
+    }
+    let owner = numbers::u32_at(domain, layout::OWNER);
+    let close = owner == 2;
+    if close {
+        let stage = numbers::u32_at(domain, layout::STAGE);
+        let first = stage == 0;
+        if first {
+            return numbers::u32_at(domain, layout::PORT);
+        }
+    }
+    0
 }
 
 pub(crate) fn put_call(domain: &mut [u8], call: Call)

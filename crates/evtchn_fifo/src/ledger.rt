@@ -4,9 +4,10 @@ ghost use Prim.Native.Nat.{_/_, _*_};
 ghost use mathlib.Core.Bool.{true};
 ghost use lib.Dec.{ltb};
 ghost use Rattle.evtchn_fifo.specs.Numbers.{numberAt};
-ghost use Rattle.evtchn_fifo.specs.Ledger.{entries, putEntry, freshLedgerBytes};
+ghost use Rattle.evtchn_fifo.specs.Ledger.{entries, entryIn, putEntry, freshLedgerBytes};
 ghost use Rattle.evtchn_fifo.specs.Encoded.{freshened};
 use crate::numbers;
+use calls::records::Lookup;
 use word::Port;
 
 pub(crate) fn has_entry(ledger: &[u8], port: Port) -> bool
@@ -23,6 +24,17 @@ pub(crate) fn entry_of(ledger: &[u8], port: Port) -> u16
 {
     let p = port.0 as usize;
     numbers::u16_at(ledger, p * 2)
+}
+
+pub fn entry_in(ledger: &[u8], port: Port) -> Lookup
+    ensures { λ r. ⌜ r ≡ entryIn (now (ledger .entry)) (port .0) ⌝ }
+{
+    let found = has_entry(ledger, port);
+    if found {
+        let entry = entry_of(ledger, port);
+        return Lookup::Found(entry);
+    }
+    Lookup::Missing
 }
 
 // The ledger with another entry for a port; a port that it has no entry for changes nothing.

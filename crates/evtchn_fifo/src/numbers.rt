@@ -2,7 +2,7 @@
 ghost use mathlib.Core.Path.{_≡_};
 ghost use Prim.Native.Nat.{_+_, _≤_};
 ghost use lib.ListN.{length};
-ghost use Rattle.evtchn_fifo.specs.Numbers.{numberAt, putNumber, narrow, valueAt, putValue, putFour, putValues};
+ghost use Rattle.evtchn_fifo.specs.Numbers.{numberAt, putNumber, numberIn, putNumberIn, narrow, valueAt, putValue, putFour, putValues};
 use word::Queue;
 
 fn wide(byte: u8) -> u32
@@ -39,6 +39,32 @@ pub(crate) fn put_u32(bytes: &mut [u8], at: usize, value: u32)
     bytes[second] = (b % 256) as u8;
     bytes[third] = (c % 256) as u8;
     bytes[fourth] = d as u8;
+}
+
+// The same two for any place: 0, and nothing written, where the bytes end before four of them.
+pub fn u32_in(bytes: &[u8], at: usize) -> u32
+    ensures { λ r. ⌜ r ≡ numberIn (now (bytes .entry)) at ⌝ }
+{
+    let some = 4 <= bytes.len();
+    if some {
+        let fits = at <= bytes.len() - 4;
+        if fits {
+            return u32_at(bytes, at);
+        }
+    }
+    0
+}
+
+pub fn put_u32_in(bytes: &mut [u8], at: usize, value: u32)
+    ensures { λ _. ⌜ now (bytes .exit) ≡ putNumberIn (now (bytes .entry)) at value ⌝ }
+{
+    let some = 4 <= bytes.len();
+    if some {
+        let fits = at <= bytes.len() - 4;
+        if fits {
+            put_u32(bytes, at, value);
+        }
+    }
 }
 
 pub(crate) fn u16_at(bytes: &[u8], at: usize) -> u16

@@ -1,0 +1,5 @@
+pub mod SlotLaws
+pub mod RefusalLaws
+pub mod ClosingLaws
+pub mod TableMeaning
+pub mod Meaning

@@ -1,0 +1,3 @@
+pub mod TableBytes
+pub mod Encoded
+pub mod Claims
