@@ -19,7 +19,8 @@
  *                              -inline-threshold=5000 -Xclang -mlink-builtin-bitcode -Xclang evtchn_fifo.bc: library and run loops are
  *                              optimised as one, with the registers and the red zone that the host is allowed
  * No function of this header needs more than EVTCHN_FIFO_STACK bytes of stack, and none calls anything outside its object. Both archives
- * also have the replay of recorded logs (evtchn_replay.h), an object of its own that is linked only where it is used.
+ * also have the replay of recorded logs (evtchn_replay.h) and cables between domains (evtchn_cables.h), each an object of its own that is
+ * linked only where it is used.
  *
  * Locks. A domain's record and its ledger belong to one lock, held from a call's start to its answer; a second call meanwhile
  * is refused (15). A guest's record belongs to its VCPU. evtchn_fifo_mask needs no lock.

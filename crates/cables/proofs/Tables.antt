@@ -29,7 +29,7 @@ empty-free = refl
 beyond : (t : List Slot) (i : ℕ) → length t ≤ i → slotOf t i ≡ empty
 beyond t i h = List·getD-eq-default t empty h
 
-has-inside : (t : List Slot) (e i : ℕ) → has (slotOf t i) e ≡ true → i < length t
+pub has-inside : (t : List Slot) (e i : ℕ) → has (slotOf t i) e ≡ true → i < length t
 has-inside t e i h = inside (ltb i (length t)) refl
   where
     inside : (b : Bool) → ltb i (length t) ≡ b → i < length t
@@ -97,15 +97,6 @@ none-taken t e h = go (taken t e) refl
 pub found-has : (t : List Slot) (hint e : ℕ) → taken t e ≡ true → has (slotOf t (find t hint e)) e ≡ true
 unfolding find
 found-has t hint e h = by-test (λ i. has (slotOf t i) e ≡ true) (has (slotOf t hint) e) (λ k. k) (λ k. taken-has t e h)
-
--- a slot is found exactly where a cable has the end
-pub find-taken : (t : List Slot) (hint e : ℕ) → ltb (find t hint e) (length t) ≡ taken t e
-unfolding find
-find-taken t hint e = go (taken t e) refl
-  where
-    go : (b : Bool) → taken t e ≡ b → ltb (find t hint e) (length t) ≡ b
-    go true k = lt-ltb (find t hint e) (length t) (has-inside t e (find t hint e) (found-has t hint e k))
-    go false k = simp (none-has t e hint k) k
 
 find-lowest : (t : List Slot) (e hint : ℕ) → Single t → find t hint e ≡ lowestWith t e
 unfolding find

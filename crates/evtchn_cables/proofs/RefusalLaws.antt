@@ -1,16 +1,16 @@
 -- The refusals of lay, cut and send on bytes, as the code comes to them: one test after another.
 -- Assumes nothing.
-use Prim.Native.Nat.{ℕ, _/_, _%_}
-use mathlib.Core.Path.{_≡_, refl, sym, ap, _∙_}
+use Prim.Native.Nat.{ℕ, _<_}
+use mathlib.Core.Path.{_≡_, refl, sym, ap, _∙_, subst}
 use mathlib.Core.Bool.{Bool, true, false, cond, not, _||_, true≢false, or-false}
 use mathlib.Core.List.{List}
 use borrow.Author.Tests.{ltb-true, not-true}
 use lib.ListN.{length}
 use lib.Dec.{eqb, ltb, leb}
 use Rattle.evtchn_fifo.specs.DomainRecord.{domainSize}
-use Rattle.cables.specs.Table.{Slot, slotCount, domainLimit, end, domainOf, portOf, other, slotOf, lowestWith, lowestFree, taken, find}
+use Rattle.cables.specs.Table.{Slot, slotCount, domainLimit, end, has, other, slotOf, lowestWith, lowestFree, taken, find}
 use Rattle.cables.specs.Rules.{joinRefusal, layRefusal, nearRefusal}
-use Rattle.cables.proofs.Tables.{find-taken}
+use Rattle.cables.proofs.Tables.{has-inside, has-taken}
 use Rattle.evtchn_cables.specs.declared.joining.Laid.{Laid}
 use Rattle.evtchn_cables.specs.declared.joining.Far.{Far}
 use Rattle.evtchn_cables.specs.TableBytes.{tableAt, slotIn, putSlot, cutBytes}
@@ -73,24 +73,30 @@ module _ (n : ℕ) (t r l : List ℕ) (d : ℕ) (P : ℕ) {p k : ℕ} (number : 
     pub cut-none : {i : ℕ} → not (eqb k 0) ≡ false → i ≡ lowestWith (tableAt t) e → ltb i slotCount ≡ false → wasCut 26 t ≡ cutDid (nearCode n t r l d P) t (end d P)
     cut-none h low none = sym (rw (code-past h, taken-is false low none))
 
-    module _ (hint : ℕ) {i : ℕ} (low : i ≡ find (tableAt t) hint e) where
-      found-is : (b : Bool) → ltb i slotCount ≡ b → taken (tableAt t) (end d P) ≡ b
-      found-is b h =
-          sym (find-taken (tableAt t) hint (end d P)) ∙ ap (λ (k : ℕ). ltb (find (tableAt t) hint (end d P)) k) (table-length t) ∙ ap (λ (x : ℕ). ltb (find (tableAt t) hint x) slotCount) (sym end-is) ∙ ap (λ (x : ℕ). ltb x slotCount) (sym low) ∙ h
+    -- the far end of the slot that look-up finds
+    far-is : (hint i : ℕ) {x : Far} → x ≡ farBytes 0 (other (slotIn t i) e) i → i < slotCount → i ≡ find (tableAt t) hint (end d P) → nearCode n t r l d P ≡ 0 →
+        x ≡ farFound (nearCode n t r l d P) t hint (end d P)
+    far-is hint i far inside found past =
+        far ∙ ap (λ (f : ℕ). farBytes 0 f i) (ap (λ s. other s e) (sym (slot-at t i inside)) ∙ ap (λ (y : ℕ). other (slotOf (tableAt t) i) y) end-is)
+        ∙ ap (λ (z : ℕ). farBytes 0 (other (slotOf (tableAt t) z) (end d P)) z) found ∙ sym (rw past)
 
-      slot-found : i ≡ find (tableAt t) hint (end d P)
-      slot-found = low ∙ ap (λ (x : ℕ). find (tableAt t) hint x) end-is
+    module _ (hint : ℕ) {right : Bool} (past : not (eqb k 0) ≡ false) (had : right ≡ has (slotOf (tableAt t) hint) e) where
+      has-is : (b : Bool) → right ≡ b → has (slotOf (tableAt t) hint) (end d P) ≡ b
+      has-is b h = ap (λ (y : ℕ). has (slotOf (tableAt t) hint) y) (sym end-is) ∙ sym had ∙ h
 
-      pub send-found : {f : ℕ} → not (eqb k 0) ≡ false → ltb i slotCount ≡ true → f ≡ other (slotIn t i) e →
-          _≡_ {A = Far} (record { code = 0; domain = f / 0x100000; port = f % 0x100000; slot = i }) (farFound (nearCode n t r l d P) t hint (end d P))
-      unfolding domainOf portOf
-      send-found {f} h found far =
-          ap (λ (x : ℕ). farBytes 0 x i) (far ∙ ap (λ s. other s e) (sym (slot-at t i (ltb-true i slotCount found))) ∙ ap (λ (x : ℕ). other (slotOf (tableAt t) i) x) end-is ∙ ap (λ (x : ℕ). other (slotOf (tableAt t) x) (end d P)) slot-found)
-          ∙ ap (λ (x : ℕ). farBytes 0 (other (slotOf (tableAt t) (find (tableAt t) hint (end d P))) (end d P)) x) slot-found
-          ∙ sym (rw (code-past h, found-is true found))
+      pub send-hinted : {x : Far} → right ≡ true → x ≡ farBytes 0 (other (slotIn t hint) e) hint → x ≡ farFound (nearCode n t r l d P) t hint (end d P)
+      unfolding find
+      send-hinted right-is far =
+          let here = has-is true right-is in
+          far-is hint hint far (subst (λ (z : ℕ). hint < z) (table-length t) (has-inside (tableAt t) (end d P) hint here)) (sym (rw here)) (code-past past ∙ rw (has-taken (tableAt t) (end d P) hint here))
 
-      pub send-none : {x : Far} → not (eqb k 0) ≡ false → ltb i slotCount ≡ false → x ≡ farBytes 26 0 0 → x ≡ farFound (nearCode n t r l d P) t hint (end d P)
-      send-none h none e = e ∙ sym (rw (code-past h, found-is false none))
+      pub send-found : {i : ℕ} {x : Far} → right ≡ false → i ≡ lowestWith (tableAt t) e → ltb i slotCount ≡ true → x ≡ farBytes 0 (other (slotIn t i) e) i → x ≡ farFound (nearCode n t r l d P) t hint (end d P)
+      unfolding find
+      send-found {i} wrong low found far =
+          far-is hint i far (ltb-true i slotCount found) (low ∙ ap (λ (y : ℕ). lowestWith (tableAt t) y) end-is ∙ sym (rw (has-is false wrong))) (code-past past ∙ rw (taken-is true low found))
+
+    pub send-none : (hint : ℕ) {i : ℕ} {x : Far} → not (eqb k 0) ≡ false → i ≡ lowestWith (tableAt t) e → ltb i slotCount ≡ false → x ≡ farBytes 26 0 0 → x ≡ farFound (nearCode n t r l d P) t hint (end d P)
+    send-none hint past low none z = z ∙ sym (rw (code-past past, taken-is false low none))
 
 -- ---- lay
 

@@ -12,7 +12,7 @@ use lib.Dec.{eqb, ltb, leb}
 use Rattle.calls.proofs.Cases.{by-test}
 use Rattle.evtchn_fifo.proofs.NumberLaws.{length-put}
 use Rattle.evtchn_fifo.specs.Numbers.{numberIn, putNumberIn}
-use Rattle.cables.specs.Table.{Slot, slot, empty, slotCount, isEnd, holds, has, other, slotOf, lowest, lowestWith, find}
+use Rattle.cables.specs.Table.{Slot, slot, empty, slotCount, isEnd, holds, has, other, slotOf, lowest}
 use Rattle.cables.proofs.Lowest.{lowest-is, lowest-none}
 use Rattle.cables.proofs.Tables.{has-empty}
 use Rattle.evtchn_cables.specs.TableBytes.{slotIn, putSlot, slotsFrom, tableAt, cutUpTo, cutSlotBytes, cutBytes}
@@ -135,11 +135,3 @@ hint-inside t i e h k = k ∙ ap (λ s. has s e) (sym (slot-at t i (ltb-true i s
 
 pub hint-beyond : (t : List ℕ) (i e : ℕ) → ltb i slotCount ≡ false → false ≡ has (slotOf (tableAt t) i) e
 hint-beyond t i e h = sym (ap (λ s. has s e) (slot-beyond t i (ltb-false i slotCount h)) ∙ has-empty e)
-
-pub hint-right : (t : List Slot) (i e : ℕ) {r : Bool} → r ≡ has (slotOf t i) e → r ≡ true → i ≡ find t i e
-unfolding find
-hint-right t i e p h = sym (rw (sym p ∙ h))
-
-pub hint-wrong : (t : List Slot) (i e : ℕ) {r : Bool} {j : ℕ} → r ≡ has (slotOf t i) e → r ≡ false → j ≡ lowestWith t e → j ≡ find t i e
-unfolding find
-hint-wrong t i e p h q = q ∙ sym (rw (sym p ∙ h))

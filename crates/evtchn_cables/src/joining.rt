@@ -1,8 +1,9 @@
 // lay, cut and send, as C reaches them.
 ghost use mathlib.Core.Path.{_≡_};
 ghost use Rattle.word.specs.Word.{linkBits};
+ghost use Rattle.cables.specs.Table.{other};
 ghost use Rattle.cables.specs.Rules.{joinRefusal};
-ghost use Rattle.evtchn_cables.specs.TableBytes.{tableAt};
+ghost use Rattle.evtchn_cables.specs.TableBytes.{slotIn, tableAt};
 ghost use Rattle.evtchn_cables.specs.Encoded.{refusedLay, layDid, layBytes, laidBytes, cutCallBytes, wasCut, sendBytes, farBytes};
 use crate::ends;
 use crate::refusals;
@@ -43,6 +44,19 @@ fn not_sent(code: u32) -> Far
         domain: 0,
         port: 0,
         slot: 0,
+    }
+}
+
+// The far end, of a slot that has the near one.
+fn far_at(table: &[u8], slot: u32, end: u32) -> Far
+    ensures { λ r. ⌜ r ≡ farBytes 0 (other (slotIn (now (table .entry)) slot) end) slot ⌝ }
+{
+    let far = table::other_end(table, slot, end);
+    Far {
+        code: 0,
+        domain: far / ends::PORTS,
+        port: far % ends::PORTS,
+        slot: slot,
     }
 }
 
@@ -144,7 +158,8 @@ pub extern "C" fn evtchn_cables_cut(
     26
 }
 
-// The far end of a cable, whose domain is to raise the port. Refusals as a cut's.
+// The far end of a cable, whose domain is to raise the port: of the hinted slot if it has the near end, else of the lowest that has it.
+// Each of the two goes its own way to the answer, so that a right hint reads its slot once. Refusals as a cut's.
 #[no_mangle]
 pub extern "C" fn evtchn_cables_send(
     table: &[u8],
@@ -163,16 +178,14 @@ pub extern "C" fn evtchn_cables_send(
         return not_sent(code);
     }
     let end = ends::end_of(number, port_number);
-    let slot = table::find(table, hint, end);
+    let right = table::hinted(table, hint, end);
+    if right {
+        return far_at(table, hint, end);
+    }
+    let slot = table::lowest_with(table, end);
     let found = slot < table::SLOTS;
     if found {
-        let far = table::other_end(table, slot, end);
-        return Far {
-            code: 0,
-            domain: far / ends::PORTS,
-            port: far % ends::PORTS,
-            slot: slot,
-        };
+        return far_at(table, slot, end);
     }
     not_sent(26)
 }

@@ -4,27 +4,29 @@ ghost use Rattle.word.specs.Word.{linkBits};
 ghost use Rattle.evtchn_cables.specs.Encoded.{portRefusalBytes, nearRefusalBytes};
 use crate::ends;
 use crate::table;
-use calls::answer;
-use calls::hypervisor::start;
-use calls::hypervisor::start::PortAcceptance;
-use calls::types::Owner;
+use calls::records;
+use calls::records::Lookup;
 use evtchn_fifo::domain_record;
 use evtchn_fifo::layout;
 use evtchn_fifo::ledger;
 use word::Port;
 
-// A port's own: 10, 3, 14, 4; 0 where it passes. Neither a call under way nor the array matters.
+// A port's own: 10, 3, 14, 4; 0 where it passes. Neither a call under way nor the array matters. Each is tested in its turn: what follows
+// then knows the port to be one, and tests less.
 pub fn port_refusal(domain: &[u8], ledger: &[u8], port: u32) -> u32
     ensures { λ r. ⌜ r ≡ portRefusalBytes linkBits (now (domain .entry)) (now (ledger .entry)) port ⌝ }
 {
-    let given = domain_record::given_in(domain);
-    let found = ledger::entry_in(ledger, Port(port));
-    match start::accept_port(Owner::None, given, Port(port), found) {
-        PortAcceptance::Refused(answer) => {
-            let code = answer::code_of(answer);
-            code.number
-        }
-        PortAcceptance::Entry(entry) => {
+    let ungiven = !domain_record::given_in(domain);
+    if ungiven {
+        return 10;
+    }
+    let bad = !records::is_port(Port(port));
+    if bad {
+        return 3;
+    }
+    match ledger::entry_in(ledger, Port(port)) {
+        Lookup::Missing => 14,
+        Lookup::Found(entry) => {
             let bound = word::entry::is_bound(entry);
             if bound {
                 return 0;

@@ -1,7 +1,7 @@
 // The table of cables: 1,024 slots of eight bytes, the two ends of a cable. Any bytes are a table; what lies beyond them reads 0.
 ghost use mathlib.Core.Path.{_≡_};
 ghost use mathlib.Core.Bool.{not};
-ghost use Rattle.cables.specs.Table.{has, holds, other, slotOf, find, lowestWith, lowestFree};
+ghost use Rattle.cables.specs.Table.{has, holds, other, slotOf, lowestWith, lowestFree};
 ghost use Rattle.evtchn_cables.specs.TableBytes.{slotIn, putSlot, tableAt, cutSlotBytes, cutBytes};
 use crate::ends;
 use evtchn_fifo::numbers;
@@ -97,17 +97,6 @@ pub fn hinted(table: &[u8], hint: u32, end: u32) -> bool
         return has_end(table, hint, end);
     }
     false
-}
-
-// The slot of an end: the hinted one if it has the end, else the lowest that has it.
-pub fn find(table: &[u8], hint: u32, end: u32) -> u32
-    ensures { λ r. ⌜ r ≡ find (tableAt (now (table .entry))) hint end ⌝ }
-{
-    let right = hinted(table, hint, end);
-    if right {
-        return hint;
-    }
-    lowest_with(table, end)
 }
 
 pub fn cut_slot(table: &mut [u8], slot: u32, end: u32)

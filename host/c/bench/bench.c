@@ -1,7 +1,8 @@
 /*
  * The cost of one call, whole, with real atomic accesses: bench CALL REPEATS [PAGES PORT OTHERS]. CALL-locked is the same with a lock
  * taken and given back. Linked with one archive, whose calls the run loops of evtchn_fifo_atomic.h bring to their answer; compiled
- * with IN_PLACE, raise, unmask and service are those of in_place.h instead.
+ * with IN_PLACE, raise, unmask and service are those of in_place.h instead; with CABLES there are sends too, each a send on a cable and
+ * the raise of PORT.
  *
  * The state just before the call is made by the library's own calls: a domain with PAGES pages and a ledger for all of their
  * ports, and OTHERS ports that stand on a queue. Each repeat puts back the few words that the call changed, and no buffer is
@@ -15,6 +16,9 @@
 #include <time.h>
 
 #include "in_place.h"
+#ifdef CABLES
+#include "evtchn_cables.h"
+#endif
 
 #define QUEUE 7u /* every port's, unless its priority is changed */
 #define ROUNDS 20
@@ -29,6 +33,14 @@ static struct state {
     uint32_t apart[256]; /* addresses that differ by a multiple of 4,096 only hinder each other in the processor */
     uint32_t words[EVTCHN_FIFO_PORTS];
     uint32_t *pages[EVTCHN_FIFO_PORTS / EVTCHN_FIFO_PAGE_WORDS];
+#ifdef CABLES
+    evtchn_cables cables;
+    evtchn_fifo_domain sender; /* another domain, from whose port a cable leads to the port that is raised */
+    uint16_t sender_ledger[64];
+    evtchn_cables_end end; /* of the cable, at the sender */
+    uint32_t slot;
+    struct state *domains[EVTCHN_CABLES_DOMAINS]; /* whom to raise, by number */
+#endif
 } state, before;
 
 static uint32_t page_count = 1, port = 5, others;
@@ -101,6 +113,40 @@ WHOLE whole_unmask_locked(struct state *s, uint32_t p)
     give_lock(s);
     return next;
 }
+
+#ifdef CABLES
+static inline evtchn_cables_far send(const struct state *s, uint32_t hint)
+{
+    evtchn_cables_far far = evtchn_cables_send_from(&s->cables, s->end, hint);
+    if (far.code != EVTCHN_FIFO_DONE)
+        fail("a send is refused");
+    return far;
+}
+
+WHOLE whole_send(struct state *s, uint32_t p)
+{
+    evtchn_cables_far far = send(s, s->slot);
+    (void)p;
+    return raise(s->domains[far.domain], far.port);
+}
+
+WHOLE whole_search(struct state *s, uint32_t p)
+{
+    evtchn_cables_far far = send(s, EVTCHN_CABLES_NO_HINT);
+    (void)p;
+    return raise(s->domains[far.domain], far.port);
+}
+
+/* A send whose raise has the replies of a host that uses those with cables for every call. */
+WHOLE whole_send_replied(struct state *s, uint32_t p)
+{
+    evtchn_cables_far far = send(s, s->slot);
+    struct state *d = s->domains[far.domain];
+    evtchn_fifo_next next = evtchn_fifo_domain_raise(&d->domain, d->ledger, d->shared.words, far.port);
+    (void)p;
+    return evtchn_cables_domain_run(&s->cables, far.domain, &d->domain, d->ledger, d->shared.words, &d->shared, next);
+}
+#endif
 
 static evtchn_fifo_next serve_one(struct state *s, uint32_t p)
 {
@@ -175,6 +221,60 @@ static void pending_and_masked(void)
 
 static void unbound(void) { raise_others(QUEUE + 1); }
 
+#ifdef CABLES
+#define SENDER 1u
+#define RAISED 2u
+#define SENDER_PORT 5u
+#define SENDER_ENTRIES (sizeof state.sender_ledger / sizeof state.sender_ledger[0])
+
+/* The last of so many cables, in the slot behind the others', which are of other domains: port k of 10 to port k of 11. */
+static void lay(uint32_t cables)
+{
+    evtchn_cables_end near = {&state.sender, state.sender_ledger, SENDER_ENTRIES, SENDER, SENDER_PORT};
+    evtchn_cables_end far = {&state.domain, state.ledger, state.shared.words, RAISED, port};
+    evtchn_cables_laid laid;
+    uint32_t k;
+    for (k = 1; k < cables; k++) {
+        uint32_t ends[2] = {(10u << 20) + k, (11u << 20) + k};
+        memcpy(state.cables.bytes + (k - 1) * sizeof ends, ends, sizeof ends);
+    }
+    evtchn_fifo_domain_fresh(&state.sender);
+    evtchn_fifo_ledger_fresh(state.sender_ledger, SENDER_ENTRIES);
+    done(evtchn_fifo_domain_init_control(&state.sender, 0, 0, 1, 0));
+    done(evtchn_fifo_domain_bind(&state.sender, state.sender_ledger, SENDER_ENTRIES, SENDER_PORT));
+    laid = evtchn_cables_join(&state.cables, near, far);
+    if (laid.code != EVTCHN_FIFO_DONE || laid.slot != cables - 1)
+        fail("the cable is not laid in the last slot");
+    state.end = near;
+    state.slot = laid.slot;
+    state.domains[RAISED] = &state;
+}
+
+static void one_to_empty(void)
+{
+    on_empty_queue();
+    lay(1);
+}
+
+static void all_to_empty(void)
+{
+    on_empty_queue();
+    lay(EVTCHN_CABLES_SLOTS);
+}
+
+static void one_to_tail(void)
+{
+    on_tail();
+    lay(1);
+}
+
+static void all_to_tail(void)
+{
+    on_tail();
+    lay(EVTCHN_CABLES_SLOTS);
+}
+#endif
+
 /* ---- the words that the call must leave ---- */
 
 static uint32_t record_word(const uint8_t *bytes, size_t at)
@@ -231,6 +331,20 @@ static const struct call {
     {"serve-eight", at_head, serve_eight, EIGHT, EVTCHN_FIFO_HANDED_OVER, 4, eighth_port, are_served},
     {"bind", unbound, whole_bind, 1, EVTCHN_FIFO_DONE, 1, no_port, is_bound},
     {"refused", unbound, whole_raise, 1, EVTCHN_FIFO_NOT_BOUND, 0, no_port, is_unchanged},
+#ifdef CABLES
+    {"send-empty-1", one_to_empty, whole_send, 1, EVTCHN_FIFO_UPCALL_WANTED, 4, no_port, starts_queue},
+    {"send-empty-1024", all_to_empty, whole_send, 1, EVTCHN_FIFO_UPCALL_WANTED, 4, no_port, starts_queue},
+    {"send-tail-1", one_to_tail, whole_send, 1, EVTCHN_FIFO_DONE, 4, no_port, ends_queue},
+    {"send-tail-1024", all_to_tail, whole_send, 1, EVTCHN_FIFO_DONE, 4, no_port, ends_queue},
+    {"replied-empty-1", one_to_empty, whole_send_replied, 1, EVTCHN_FIFO_UPCALL_WANTED, 4, no_port, starts_queue},
+    {"replied-empty-1024", all_to_empty, whole_send_replied, 1, EVTCHN_FIFO_UPCALL_WANTED, 4, no_port, starts_queue},
+    {"replied-tail-1", one_to_tail, whole_send_replied, 1, EVTCHN_FIFO_DONE, 4, no_port, ends_queue},
+    {"replied-tail-1024", all_to_tail, whole_send_replied, 1, EVTCHN_FIFO_DONE, 4, no_port, ends_queue},
+    {"search-empty-1", one_to_empty, whole_search, 1, EVTCHN_FIFO_UPCALL_WANTED, 4, no_port, starts_queue},
+    {"search-empty-1024", all_to_empty, whole_search, 1, EVTCHN_FIFO_UPCALL_WANTED, 4, no_port, starts_queue},
+    {"search-tail-1", one_to_tail, whole_search, 1, EVTCHN_FIFO_DONE, 4, no_port, ends_queue},
+    {"search-tail-1024", all_to_tail, whole_search, 1, EVTCHN_FIFO_DONE, 4, no_port, ends_queue},
+#endif
 };
 
 /* ---- repeats ---- */

@@ -35,7 +35,7 @@ static void count_access(domain *d, evtchn_fifo_next next, uint32_t seen)
         account->closed++;
 }
 
-/* Any refusal but 4, 5 and 7, which closes and binds bring about, and 18, which is counted by itself. */
+/* Any refusal but 4, 5, 7, 25 and 26, which closes and binds bring about, and 18, which is counted by itself. */
 static bool is_unexpected(uint32_t code)
 {
     switch (code) {
@@ -49,6 +49,8 @@ static bool is_unexpected(uint32_t code)
     case EVTCHN_FIFO_HANDED_OVER:
     case EVTCHN_FIFO_NOTHING_READY:
     case EVTCHN_FIFO_TAKEN:
+    case EVTCHN_CABLES_TAKEN:
+    case EVTCHN_CABLES_NONE:
         return false;
     default:
         return true;
@@ -65,26 +67,42 @@ static void count_answer(tally *t, evtchn_fifo_next next, uint32_t made)
     t->refused += is_unexpected(next.code);
 }
 
-/* An access of a side's call, and its reply, to which next comes; false where it is not mapped. */
-static bool step(domain *d, side side, evtchn_fifo_next *next)
+void domain_count_refusal(domain *d, uint32_t code) { d->hypervisor.refused += is_unexpected(code); }
+
+/* An access of a hypervisor's call, and its reply, to which next comes; false where it is not mapped. A close's reply cuts. */
+static bool hypervisor_step(domain *d, evtchn_fifo_next *next)
 {
     evtchn_fifo_next access = *next;
     uint32_t seen;
-    if (side == GUEST)
+    bool made;
+    evtchn_fifo_trace_lock(d->trace);
+    made = evtchn_fifo_perform(&d->shared, access, &seen);
+    if (made) {
+        *next = evtchn_cables_domain_reply(d->cables, d->number, &d->record, d->ledger, WORDS, seen);
+        if (d->trace != NULL)
+            evtchn_fifo_trace_made(d->trace, EVTCHN_FIFO_TRACE_HYPERVISOR, access, seen, *next);
+    }
+    evtchn_fifo_trace_unlock(d->trace);
+    if (made)
+        count_access(d, access, seen);
+    return made;
+}
+
+static bool step(domain *d, side caller, evtchn_fifo_next *next)
+{
+    uint32_t seen;
+    if (caller == GUEST)
         return evtchn_fifo_trace_guest_step(d->trace, &d->guest_record, &d->shared, next, &seen);
-    if (!evtchn_fifo_trace_domain_step(d->trace, &d->record, d->ledger, WORDS, &d->shared, next, &seen))
-        return false;
-    count_access(d, access, seen);
-    return true;
+    return hypervisor_step(d, next);
 }
 
 /* A call of a side, from its start to its answer. An access outside what is mapped is counted and not made. */
-static evtchn_fifo_next run(domain *d, side side, evtchn_fifo_next next)
+static evtchn_fifo_next run(domain *d, side caller, evtchn_fifo_next next)
 {
-    tally *t = side == HYPERVISOR ? &d->hypervisor : &d->guest;
+    tally *t = caller == HYPERVISOR ? &d->hypervisor : &d->guest;
     uint32_t made = 0;
     while (evtchn_fifo_is_access(next)) {
-        if (!step(d, side, &next)) {
+        if (!step(d, caller, &next)) {
             t->outside++;
             return next;
         }
@@ -96,8 +114,7 @@ static evtchn_fifo_next run(domain *d, side side, evtchn_fifo_next next)
     return next;
 }
 
-/* The rest of a hypervisor's call whose start came to next; the lock is held, and is given back. */
-static uint32_t finish(domain *d, evtchn_fifo_next next)
+uint32_t domain_finish(domain *d, evtchn_fifo_next next)
 {
     next = run(d, HYPERVISOR, next);
     pthread_mutex_unlock(&d->lock);
@@ -109,31 +126,43 @@ static uint32_t finish(domain *d, evtchn_fifo_next next)
 uint32_t domain_bind(domain *d, uint32_t port)
 {
     pthread_mutex_lock(&d->lock);
-    return finish(d, evtchn_fifo_trace_bind(d->trace, &d->record, d->ledger, WORDS, port));
+    return domain_finish(d, evtchn_fifo_trace_bind(d->trace, &d->record, d->ledger, WORDS, port));
+}
+
+/* A close's start, with its line, at one moment. */
+static evtchn_fifo_next start_close(domain *d, uint32_t port)
+{
+    evtchn_fifo_next next;
+    evtchn_fifo_trace_lock(d->trace);
+    next = evtchn_cables_domain_close(d->cables, d->number, &d->record, d->ledger, WORDS, port);
+    if (d->trace != NULL)
+        evtchn_fifo_trace_started(d->trace, EVTCHN_FIFO_TRACE_HYPERVISOR, evtchn_fifo_line_close(d->trace->line, port), next);
+    evtchn_fifo_trace_unlock(d->trace);
+    return next;
 }
 
 uint32_t domain_close(domain *d, uint32_t port)
 {
     pthread_mutex_lock(&d->lock);
-    return finish(d, evtchn_fifo_trace_close(d->trace, &d->record, d->ledger, WORDS, port));
+    return domain_finish(d, start_close(d, port));
 }
 
 uint32_t domain_set_priority(domain *d, uint32_t port, uint32_t priority)
 {
     pthread_mutex_lock(&d->lock);
-    return finish(d, evtchn_fifo_trace_set_priority(d->trace, &d->record, d->ledger, WORDS, port, priority));
+    return domain_finish(d, evtchn_fifo_trace_set_priority(d->trace, &d->record, d->ledger, WORDS, port, priority));
 }
 
 uint32_t domain_raise(domain *d, uint32_t port)
 {
     pthread_mutex_lock(&d->lock);
-    return finish(d, evtchn_fifo_trace_raise(d->trace, &d->record, d->ledger, WORDS, port));
+    return domain_finish(d, evtchn_fifo_trace_raise(d->trace, &d->record, d->ledger, WORDS, port));
 }
 
 uint32_t domain_unmask(domain *d, uint32_t port)
 {
     pthread_mutex_lock(&d->lock);
-    return finish(d, evtchn_fifo_trace_unmask(d->trace, &d->record, d->ledger, WORDS, port));
+    return domain_finish(d, evtchn_fifo_trace_unmask(d->trace, &d->record, d->ledger, WORDS, port));
 }
 
 uint32_t domain_service(domain *d, uint32_t *port)
@@ -168,13 +197,15 @@ static void fresh(domain *d)
     evtchn_fifo_ledger_fresh(d->ledger, WORDS);
 }
 
-bool domain_begin(domain *d, conduct conduct, uint64_t seed, evtchn_fifo_trace *trace)
+bool domain_begin(domain *d, uint32_t number, conduct kind, evtchn_cables *cables, evtchn_fifo_trace *trace)
 {
     uint32_t k, refusals;
     fresh(d);
-    d->conduct = conduct;
-    d->seed = seed;
+    d->conduct = kind;
+    d->number = number;
+    d->seed = number + 1;
     d->trace = trace;
+    d->cables = cables;
     refusals = evtchn_fifo_trace_init_control(trace, &d->record, 0, 0, FRAMES, 0).code;
     for (k = 1; k <= PAGES; k++) {
         refusals |= evtchn_fifo_trace_expand_array(trace, &d->record, k, FRAMES).code;

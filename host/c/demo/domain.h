@@ -1,5 +1,5 @@
 /* A domain of the demo: the hypervisor's record and ledger under one lock, the memory shared with its guest, the guest's own
- * record, and what both sides count of their accesses and answers. */
+ * record, which of its ports cables join to another domain's, and what both sides count of their accesses and answers. */
 #ifndef DEMO_DOMAIN_H
 #define DEMO_DOMAIN_H
 
@@ -7,6 +7,7 @@
 #include <stdatomic.h>
 #include <stdbool.h>
 
+#include "evtchn_cables.h"
 #include "evtchn_fifo_trace.h"
 
 #define PAGES 2u
@@ -28,13 +29,28 @@ typedef enum conduct {
 
 extern const char *const conduct_names[CONDUCTS];
 
-/* One port's events; the first three are counted by the hypervisor, the last by the guest. */
+/* One port's events; the last is counted by the guest, the others by the hypervisor. A raise by a send is a raise. */
 typedef struct port_account {
     uint64_t events;      /* raises that found PENDING clear and set it */
     uint64_t coalesced;   /* raises that found it set */
     uint64_t closed;      /* closes that found it set */
+    uint64_t sent;        /* sends from the port that the table led on */
+    uint64_t received;    /* raises of the port that a send began */
     uint64_t handed_over; /* answers 19 */
 } port_account;
+
+/* The cable of a port. */
+typedef struct joint {
+    uint32_t far_port; /* the partner's port that it is joined to while both are bound; 0: the port has no cable */
+    uint32_t hint;     /* the slot that the last lay gave; under the cable lock */
+} joint;
+
+/* What is counted of a domain's cables. */
+typedef struct cable_tally {
+    uint64_t laid;    /* lays from a port of the domain; under the cable lock */
+    uint64_t cut;     /* closes of a port of it that had a cable; under the cable lock */
+    uint64_t refused; /* sends from a port of it that were refused; under the domain's lock */
+} cable_tally;
 
 /* What one side counts of its calls. */
 typedef struct tally {
@@ -56,8 +72,14 @@ typedef struct upcall {
 
 typedef struct domain {
     conduct conduct;
+    uint32_t number;
     uint64_t seed;
     evtchn_fifo_trace *trace; /* takes the log's lines; NULL: there is none */
+
+    evtchn_cables *cables;    /* the table, which all domains share */
+    struct domain *partner;   /* the domain that cables lead to; NULL: there is none */
+    joint joints[WORDS];
+    cable_tally cable_tally;
 
     pthread_mutex_t lock; /* record and ledger, from a call's start to its answer */
     evtchn_fifo_domain record;
@@ -81,14 +103,20 @@ typedef struct domain {
 extern const uint32_t ports[PORTS];
 
 /* A fresh domain with two pages, told to its guest, and its ports bound on several priorities; false where a call refuses. */
-bool domain_begin(domain *d, conduct conduct, uint64_t seed, evtchn_fifo_trace *trace);
+bool domain_begin(domain *d, uint32_t number, conduct kind, evtchn_cables *cables, evtchn_fifo_trace *trace);
 
 /* The hypervisor's calls, each from its start to its answer with the lock held: the answer's number. */
 uint32_t domain_bind(domain *d, uint32_t port);
-uint32_t domain_close(domain *d, uint32_t port);
+uint32_t domain_close(domain *d, uint32_t port); /* the cable lock is held, and not shared */
 uint32_t domain_set_priority(domain *d, uint32_t port, uint32_t priority);
 uint32_t domain_raise(domain *d, uint32_t port);
 uint32_t domain_unmask(domain *d, uint32_t port);
+
+/* The rest of a hypervisor's call whose start came to next; the lock is held, and is given back: the answer's number. */
+uint32_t domain_finish(domain *d, evtchn_fifo_next next);
+
+/* Counts a refusal of a call that is not the domain's alone; the lock is held. */
+void domain_count_refusal(domain *d, uint32_t code);
 
 /* One service of the guest's, from its start to its answer: the answer's number. The port is that of 19 and 21. */
 uint32_t domain_service(domain *d, uint32_t *port);

@@ -1,13 +1,18 @@
 /* The guests' threads. An honest guest makes only the library's accesses; a hostile one writes anything anywhere in its pages. */
-#define _POSIX_C_SOURCE 200809L
 #include <sched.h>
 #include <time.h>
 
+#include "cables.h"
 #include "random.h"
-#include "threads.h"
 
 /* A masking guest masks one port in so many that it is handed. */
 #define MASKS_ONE_IN 8u
+
+/* A guest sends on one port in so many that it is handed and that have a cable. */
+#define SENDS_ONE_IN 2u
+
+/* A hostile guest sends on any port after one service in so many. */
+#define HOSTILE_SENDS_ONE_IN 8u
 
 /* A hostile guest's writes to one word between two pauses. */
 #define WRITES 1000u
@@ -33,24 +38,49 @@ static void ask_for_unmask(domain *d, masked_ports *masked)
         domain_unmask(d, masked->port[--masked->count]);
 }
 
-static void serve_until_idle(domain *d, masked_ports *masked, uint64_t *random)
+/* A send is a call of the hypervisor's too. The far guest may answer it by another, so that none is begun once the host is stopped. */
+static void ask_for_send(guest_thread *self, uint32_t port)
+{
+    if (self->domain->partner != NULL && !atomic_load(&self->host->stopped))
+        cables_send(self->host, self->domain, port);
+}
+
+/* What a guest does with a port that it is handed. */
+static void take_event(guest_thread *self, uint32_t port, masked_ports *masked, uint64_t *random)
+{
+    domain *d = self->domain;
+    if (d->conduct == MASKING && random_below(random, MASKS_ONE_IN) == 0)
+        mask(d, masked, port);
+    if (d->joints[port].far_port != 0 && random_below(random, SENDS_ONE_IN) == 0)
+        ask_for_send(self, port);
+}
+
+static void serve_until_idle(guest_thread *self, masked_ports *masked, uint64_t *random)
 {
     uint32_t port, answer;
-    while ((answer = domain_service(d, &port)) == EVTCHN_FIFO_HANDED_OVER || answer == EVTCHN_FIFO_TAKEN) {
-        if (d->conduct == MASKING && answer == EVTCHN_FIFO_HANDED_OVER && random_below(random, MASKS_ONE_IN) == 0)
-            mask(d, masked, port);
+    while ((answer = domain_service(self->domain, &port)) == EVTCHN_FIFO_HANDED_OVER || answer == EVTCHN_FIFO_TAKEN) {
+        if (answer == EVTCHN_FIFO_HANDED_OVER)
+            take_event(self, port, masked, random);
     }
 }
 
+static void serve_upcalls(guest_thread *self, uint64_t *random)
+{
+    masked_ports masked = {{0}, 0};
+    while (upcall_wait(&self->domain->upcall)) {
+        serve_until_idle(self, &masked, random);
+        ask_for_unmask(self->domain, &masked);
+    }
+}
+
+/* What the other guests' last sends raised is served when all of them have ended. */
 void *guest_run(void *argument)
 {
     guest_thread *self = argument;
     uint64_t random = self->domain->seed;
-    masked_ports masked = {{0}, 0};
-    while (upcall_wait(&self->domain->upcall)) {
-        serve_until_idle(self->domain, &masked, &random);
-        ask_for_unmask(self->domain, &masked);
-    }
+    serve_upcalls(self, &random);
+    pthread_barrier_wait(&self->host->guests_ended);
+    serve_upcalls(self, &random);
     return NULL;
 }
 
@@ -63,12 +93,16 @@ static void pause_a_little(void)
 void *hostile_run(void *argument)
 {
     guest_thread *self = argument;
+    uint64_t random = self->domain->seed;
     uint32_t port;
     while (!atomic_load(&self->host->stopped)) {
         uint32_t answer = domain_service(self->domain, &port);
+        if (random_below(&random, HOSTILE_SENDS_ONE_IN) == 0)
+            ask_for_send(self, ports[random_below(&random, PORTS)]);
         if (answer == EVTCHN_FIFO_NOTHING_READY)
             pause_a_little();
     }
+    pthread_barrier_wait(&self->host->guests_ended);
     return NULL;
 }
 

@@ -1,29 +1,36 @@
 /* The hypervisor's threads: events for random ports of random domains. */
 #include <sched.h>
 
+#include "cables.h"
 #include "random.h"
-#include "threads.h"
 
 /* Events for one domain before the thread turns to another. */
 #define MOST_EVENTS 16u
 
-/* A port let again: closed, and bound anew; its old event may still be linked, and then the bind gives 7. */
-static void reopen(domain *d, uint32_t port)
+/* A port bound anew has no cable: its close has cut it. */
+static void bind_port(host *h, domain *d, uint32_t port)
 {
-    domain_close(d, port);
-    domain_bind(d, port);
+    if (domain_bind(d, port) == EVTCHN_FIFO_DONE && d->joints[port].far_port != 0)
+        cables_lay(h, d, port);
+}
+
+/* A port let again: closed, and bound anew; its old event may still be linked, and then the bind gives 7. */
+static void reopen(host *h, domain *d, uint32_t port)
+{
+    cables_close(h, d, port);
+    bind_port(h, d, port);
 }
 
 /* One event of a domain. Where the port is not bound, since its last bind gave 7, it is bound. */
-static void one_event(domain *d, uint64_t *random)
+static void one_event(host *h, domain *d, uint64_t *random)
 {
     uint32_t port = ports[random_below(random, PORTS)];
     if (domain_raise(d, port) == EVTCHN_FIFO_NOT_BOUND)
-        domain_bind(d, port);
+        bind_port(h, d, port);
     if (d->conduct != REOPENING)
         return;
     switch (random_below(random, 16)) {
-    case 0: reopen(d, port); break;
+    case 0: reopen(h, d, port); break;
     case 1: domain_set_priority(d, port, random_below(random, EVTCHN_FIFO_QUEUES)); break;
     default: break;
     }
@@ -37,7 +44,7 @@ void *hypervisor_run(void *argument)
         domain *d = &self->host->domains[random_below(&random, self->host->count)];
         uint32_t k, events = random_below(&random, MOST_EVENTS) + 1;
         for (k = 0; k < events; k++)
-            one_event(d, &random);
+            one_event(self->host, d, &random);
         sched_yield(); /* so that guests serve meanwhile, also on one processor */
     }
     return NULL;

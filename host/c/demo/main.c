@@ -1,9 +1,9 @@
 /*
- * demo SECONDS DOMAINS [GUEST FILE]: one host with many domains, in threads over real atomics. Prints the log of C1, runs for some
- * seconds, and ends with a table and with the claims that it checked. Exit status 0 if all hold, 1 if one fails, 2 if it can't run.
- * With GUEST (plain, masking, reopening or hostile) the log of the first domain with such a guest is written to FILE.
+ * demo SECONDS DOMAINS [GUEST FILE]: one host with many domains, joined in pairs by cables, in threads over real atomics. Prints the log
+ * of C1, runs for some seconds, prints tables, shows the fence on one thread, and ends with the claims that it checked. Exit status 0 if
+ * all hold, 1 if one fails, 2 if it can't run. With GUEST (plain, masking, reopening or hostile) the log of the first domain with such a
+ * guest is written to FILE.
  */
-#define _POSIX_C_SOURCE 200809L
 #include <errno.h>
 #include <inttypes.h>
 #include <stdio.h>
@@ -12,6 +12,8 @@
 #include <unistd.h>
 
 #include "../world.h"
+#include "cables.h"
+#include "fence.h"
 #include "recording.h"
 #include "report.h"
 
@@ -82,7 +84,8 @@ static void show_progress(const host *h, double begun, unsigned seconds)
     while (elapsed < seconds) {
         sleep_for(seconds - elapsed < step ? seconds - elapsed : step);
         elapsed = now() - begun;
-        printf("%s%.1f of %u s: %llu raises, %llu hand-overs%s", terminal ? "\r" : "", elapsed, seconds, total(h, true), total(h, false), terminal ? "" : "\n");
+        printf("%s%.1f of %u s: %llu raises, %llu hand-overs%s", terminal ? "\r" : "", elapsed, seconds, total(h, true), total(h, false),
+               terminal ? "" : "\n");
         fflush(stdout);
     }
     printf(terminal ? "\n\n" : "\n");
@@ -104,6 +107,8 @@ static void start(pthread_t *thread, void *(*run)(void *), void *argument)
 static void start_all(crew *c, host *h)
 {
     uint32_t k;
+    if (pthread_barrier_init(&h->guests_ended, NULL, h->count) != 0)
+        fail("no memory for the guests' barrier");
     for (k = 0; k < h->count; k++) {
         bool hostile = h->domains[k].conduct == HOSTILE;
         c->guests[k] = (guest_thread){&h->domains[k], h};
@@ -117,15 +122,16 @@ static void start_all(crew *c, host *h)
     }
 }
 
-/* No more raises, then no more upcalls: guests serve what is left and end. */
+/* No more raises and sends, then no more upcalls: guests serve what is left and end. */
 static void end_all(crew *c, host *h)
 {
     uint32_t k;
     atomic_store(&h->stopped, true);
     for (k = 0; k < HYPERVISOR_THREADS; k++)
         pthread_join(c->hypervisor[k], NULL);
-    for (k = 0; k < h->count; k++) {
+    for (k = 0; k < h->count; k++)
         upcall_stop(&h->domains[k].upcall);
+    for (k = 0; k < h->count; k++) {
         pthread_join(c->guest[k], NULL);
         if (h->domains[k].conduct == HOSTILE)
             pthread_join(c->writer[k], NULL);
@@ -153,9 +159,11 @@ static void begin_domains(host *h, const settings *s, recording *r)
         fail_at(s->file, strerror(errno));
     for (k = 0; k < s->count; k++) {
         bool recorded = s->file != NULL && k == s->recorded;
-        if (!domain_begin(&h->domains[k], conducts[k % 5], k + 1, recorded ? &r->trace : NULL))
+        if (!domain_begin(&h->domains[k], k, conducts[k % 5], &h->cables, recorded ? &r->trace : NULL))
             fail("a domain's first calls were refused");
     }
+    if (!cables_begin(h))
+        fail("the first cables were refused");
 }
 
 static void end_recording(const settings *s, recording *r)
@@ -185,7 +193,8 @@ static uint32_t first_with(const char *guest, unsigned count)
     for (k = 0; k < count && k < 5; k++)
         if (strcmp(conduct_names[conducts[k]], guest) == 0)
             return k;
-    fprintf(stderr, "demo: of %u domains none has a guest that is '%s'; of four there are plain, masking, reopening and hostile\n", count, guest);
+    fprintf(stderr, "demo: of %u domains none has a guest that is '%s'; of four there are plain, masking, reopening and hostile\n", count,
+            guest);
     exit(2);
 }
 
@@ -203,6 +212,8 @@ static settings read_arguments(int words, char **word)
     return s;
 }
 
+static void show_claim(bool holds, const char *of, const char *text) { printf("%-6s %-11s %s\n", holds ? "holds" : "FAILS", of, text); }
+
 int main(int words, char **word)
 {
     static crew c;
@@ -210,18 +221,22 @@ int main(int words, char **word)
     static recording r;
     settings s = read_arguments(words, word);
     double begun, elapsed;
-    bool holds = show_c1();
+    bool as_documented = show_c1(), fenced, holds;
     begin_domains(&h, &s, &r);
-    printf("%u domains, %u threads of the hypervisor's, a thread for each guest, one more for each hostile guest:\n\n", s.count, HYPERVISOR_THREADS);
+    printf("%u domains, %u threads of the hypervisor's, a thread for each guest, one more for each hostile guest:\n\n", s.count,
+           HYPERVISOR_THREADS);
     begun = now();
     start_all(&c, &h);
     show_progress(&h, begun, s.seconds);
     elapsed = now() - begun;
     end_all(&c, &h);
     end_recording(&s, &r);
-    report_table(&h, elapsed);
-    printf("\n%-6s %-11s the log of C1 is document 01's\n", holds ? "holds" : "FAILS", "all");
-    holds = report_claims(&h) && holds;
+    report_tables(&h, elapsed);
+    fenced = fence_show();
+    printf("\n");
+    show_claim(as_documented, "all", "the log of C1 is document 01's");
+    show_claim(fenced, "others", "nothing that is heard of them tells what one domain's words hold");
+    holds = report_claims(&h) && as_documented && fenced;
     printf("\n%s\n", holds ? "Every claim holds." : "A claim FAILS.");
     return holds ? 0 : 1;
 }

@@ -1,9 +1,10 @@
-/* Sums over domains and ports, the table, and the claims. The account of a port: the times that PENDING went from clear to set are
+/* Sums over domains and ports, the tables, and the claims. The account of a port: the times that PENDING went from clear to set are
  * its hand-overs, and the closes that found it set, and one if it is set now. An event that is left pending on a port that is not
- * masked is lost too: no guest will be woken for it. */
+ * masked is lost too: no guest will be woken for it. The raises of a port are the hypervisor's and those that sends began. */
 #include <inttypes.h>
-#include <stdio.h>
 
+#include "cables.h"
+#include "numbers.h"
 #include "report.h"
 
 /* Demand 1's limits, and that of a raise of a guest that keeps the rules. */
@@ -12,8 +13,9 @@
 #define MOST_WITH_RULES_KEPT 8u
 
 typedef struct group {
-    uint32_t domains, longest;
+    uint32_t domains, joined, longest;
     uint64_t raises, hand_overs, coalesced, closed, lost, doubled, abandoned;
+    uint64_t sent, received, refused, laid, cut;
 } group;
 
 static uint32_t word_of(const domain *d, uint32_t port)
@@ -30,43 +32,36 @@ static void add_port(group *g, const domain *d, uint32_t port)
     g->hand_overs += account->handed_over;
     g->coalesced += account->coalesced;
     g->closed += account->closed;
+    g->sent += account->sent;
+    g->received += account->received;
     if (due > account->handed_over)
         g->lost += due - account->handed_over;
     else
         g->doubled += account->handed_over - due;
 }
 
-static group sum(const host *h, conduct conduct)
+static void add_domain(group *g, const domain *d)
 {
-    group g = {0};
-    uint32_t k, port;
-    for (k = 0; k < h->count; k++) {
-        const domain *d = &h->domains[k];
-        if (d->conduct != conduct)
-            continue;
-        g.domains++;
-        g.longest = d->hypervisor.longest > g.longest ? d->hypervisor.longest : g.longest;
-        g.abandoned += d->hypervisor.abandoned;
-        for (port = 0; port < WORDS; port++)
-            add_port(&g, d, port);
-    }
-    return g;
+    uint32_t port;
+    g->domains++;
+    g->joined += d->partner != NULL;
+    g->longest = d->hypervisor.longest > g->longest ? d->hypervisor.longest : g->longest;
+    g->abandoned += d->hypervisor.abandoned;
+    g->refused += d->cable_tally.refused;
+    g->laid += d->cable_tally.laid;
+    g->cut += d->cable_tally.cut;
+    for (port = 0; port < WORDS; port++)
+        add_port(g, d, port);
 }
 
-/* A number with a comma before each group of three digits, right in its column. */
-static void print_number(uint64_t number, int width)
+static group sum(const host *h, conduct kind)
 {
-    char text[32];
-    int at = (int)sizeof text, digits = 0;
-    text[--at] = 0;
-    do {
-        if (digits > 0 && digits % 3 == 0)
-            text[--at] = ',';
-        text[--at] = (char)('0' + number % 10);
-        number /= 10;
-        digits++;
-    } while (number > 0);
-    printf("%*s", width, text + at);
+    group g = {0};
+    uint32_t k;
+    for (k = 0; k < h->count; k++)
+        if (h->domains[k].conduct == kind)
+            add_domain(&g, &h->domains[k]);
+    return g;
 }
 
 static void print_group(const char *name, const group *g, bool keeps_rules, double seconds)
@@ -89,7 +84,19 @@ static void print_group(const char *name, const group *g, bool keeps_rules, doub
     printf("\n");
 }
 
-void report_table(const host *h, double seconds)
+static void print_cables(const char *name, const group *g)
+{
+    printf("%-10s", name);
+    print_number(g->joined, 8);
+    print_number(g->sent, 13);
+    print_number(g->received, 13);
+    print_number(g->refused, 13);
+    print_number(g->laid, 13);
+    print_number(g->cut, 13);
+    printf("\n");
+}
+
+static void report_events(const host *h, double seconds)
 {
     int c;
     printf("%-10s%8s%13s%13s%13s%9s%6s%8s%10s%8s%11s\n", "guests", "domains", "raises", "hand-overs", "coalesced", "closed", "lost",
@@ -99,7 +106,27 @@ void report_table(const host *h, double seconds)
         if (g.domains > 0)
             print_group(conduct_names[c], &g, c != HOSTILE, seconds);
     }
-    printf("\nRaises are hand-overs, coalesced and closed (a close found the event pending). What a hostile guest loses is its own.\n");
+    printf("\nRaises are hand-overs, coalesced and closed (a close found the event pending).\n"
+           "What a hostile guest loses is its own.\n");
+}
+
+static void report_cables(const host *h)
+{
+    int c;
+    printf("\n%-10s%8s%13s%13s%13s%13s%13s\n", "guests", "joined", "sent", "received", "refused", "cables laid", "cut by close");
+    for (c = 0; c < CONDUCTS; c++) {
+        group g = sum(h, (conduct)c);
+        if (g.joined > 0)
+            print_cables(conduct_names[c], &g);
+    }
+    printf("\nA send is a raise of the port at the cable's other end, and is counted as one. Refused: no cable just then.\n");
+}
+
+void report_tables(const host *h, double seconds)
+{
+    report_events(h, seconds);
+    if (h->count > 1)
+        report_cables(h);
 }
 
 /* ---- the claims: each is a count of what speaks against it ---- */
@@ -119,6 +146,35 @@ static uint64_t wrong_accounts(const domain *d)
     return wrong;
 }
 
+/* joined ports whose sends are not what their partner's were raised by */
+static uint64_t wrong_sends(const domain *d)
+{
+    uint64_t wrong = 0;
+    uint32_t port;
+    for (port = 0; port < WORDS; port++) {
+        uint32_t far_port = d->joints[port].far_port;
+        uint64_t received = far_port != 0 ? d->partner->accounts[far_port].received : 0;
+        wrong += d->accounts[port].sent != received;
+    }
+    return wrong;
+}
+
+/* cables that neither stand nor were cut, or do both */
+static uint64_t wrong_cables(const domain *d)
+{
+    uint64_t laid, cut, standing = 0;
+    uint32_t port;
+    if (d->partner == NULL)
+        return d->cable_tally.laid + d->cable_tally.cut;
+    for (port = 0; port < WORDS; port++) {
+        evtchn_cables_far far = cables_far(d, port);
+        standing += far.code == EVTCHN_FIFO_DONE && far.domain == d->partner->number && far.port == d->joints[port].far_port;
+    }
+    laid = d->cable_tally.laid + d->partner->cable_tally.laid;
+    cut = d->cable_tally.cut + d->partner->cable_tally.cut;
+    return laid > cut + standing ? laid - cut - standing : cut + standing - laid;
+}
+
 /* words that are LINKED, or PENDING and not MASKED, when the threads have ended */
 static uint64_t left_behind(const domain *d)
 {
@@ -129,6 +185,13 @@ static uint64_t left_behind(const domain *d)
         left += (word & LINKED) != 0 || (word & (PENDING | MASKED)) == PENDING;
     }
     return left;
+}
+
+static uint64_t nothing_sent(const domain *d)
+{
+    group g = {0};
+    add_domain(&g, d);
+    return g.joined > 0 && (g.sent == 0 || g.received == 0);
 }
 
 static uint64_t nothing_handed_over(const domain *d) { return atomic_load(&d->hand_overs) == 0; }
@@ -148,13 +211,16 @@ static const struct claim {
     {"each port's events are its hand-overs and those that a close found", wrong_accounts, false},
     {"at the end no port is linked, and what is pending is masked", left_behind, false},
     {"each guest was handed events", nothing_handed_over, false},
+    {"each guest that cables join to another sent, and was sent to", nothing_sent, false},
+    {"each port's sends are raises of the port at its cable's other end, and none is refused", wrong_sends, true},
+    {"each cable was cut by a close, or joins two bound ports at the end", wrong_cables, true},
     {"no link is abandoned (2)", abandoned, false},
     {"no service is refused an index (18)", bad_indices, false},
     {"no call makes more than eight accesses", long_raises, false},
     {"no call makes more than nine accesses, no service more than five", long_calls, true},
     {"no access is outside the array and the control block", outside, true},
     {"each answer's count is the number of accesses made", miscounted, true},
-    {"no call is refused but for a port not bound, bound already or still linked", refused, true},
+    {"no call is refused but for a port that is bound or not, still linked, joined or not", refused, true},
 };
 
 static uint64_t count_against(const host *h, const struct claim *claim)

@@ -1,5 +1,5 @@
 -- `evtchn_cables::joining::evtchn_cables_send` meets its contract. Assumes nothing.
-use Rattle.evtchn_cables.proofs.RefusalLaws.{send-refused, send-found, send-none}
+use Rattle.evtchn_cables.proofs.RefusalLaws.{send-refused, send-hinted, send-found, send-none}
 use borrow.Author.Needs.{needs}
 use Rattle.evtchn_cables.proofs.joining.evtchn_cables_send.Statement.{statement}
 use Rattle.evtchn_cables.proofs.joining.evtchn_cables_send.Tie as tie
@@ -19,20 +19,29 @@ returns c = send-refused _ _ _ _ _ _ (c .before .before .before .narrowed .ensur
 end-of-requires : tie.Need-end-of-requires
 end-of-requires c κs = search needs
 
-find-requires : tie.Need-find-requires
-find-requires c κs = search needs
+hinted-requires : tie.Need-hinted-requires
+hinted-requires c κs = search needs
 
-other-end-requires : tie.Need-other-end-requires
-other-end-requires c κs = search needs
+far-at-requires : tie.Need-far-at-requires
+far-at-requires c κs = search needs
 
 returns-2 : tie.Need-returns-2
-returns-2 c = send-found _ _ _ _ _ _ (c .before .before .before .before .before .before .narrowed .ensures) (c .before .before .before .before .before .near-refusal .ensures) (c .before .before .before .end-of .ensures) _ (c .before .before .find .ensures) (c .before .before .before .before .if1 .left) (c .before .if2 .taken) (c .other-end .ensures)
+returns-2 c = send-hinted _ _ _ _ _ _ (c .before .before .before .before .before .before .narrowed .ensures) (c .before .before .before .before .before .near-refusal .ensures) (c .before .before .before .end-of .ensures) _ (c .before .before .before .before .if1 .left) (c .before .before .hinted .ensures) (c .before .if2 .taken) (c .far-at .ensures)
+
+lowest-with-requires : tie.Need-lowest-with-requires
+lowest-with-requires c κs = search needs
+
+far-at-requires-2 : tie.Need-far-at-requires-2
+far-at-requires-2 c κs = search needs
+
+returns-3 : tie.Need-returns-3
+returns-3 c = send-found _ _ _ _ _ _ (c .before .before .before .before .before .before .before .before .narrowed .ensures) (c .before .before .before .before .before .before .before .near-refusal .ensures) (c .before .before .before .before .before .end-of .ensures) _ (c .before .before .before .before .before .before .if1 .left) (c .before .before .before .before .hinted .ensures) (c .before .before .before .if2 .left) (c .before .before .lowest-with .ensures) (c .before .if3 .taken) (c .far-at2 .ensures)
 
 not-sent-requires-2 : tie.Need-not-sent-requires-2
 not-sent-requires-2 c κs = search needs
 
-returns-3 : tie.Need-returns-3
-returns-3 c = send-none _ _ _ _ _ _ (c .before .before .before .before .before .before .narrowed .ensures) (c .before .before .before .before .before .near-refusal .ensures) (c .before .before .before .end-of .ensures) _ (c .before .before .find .ensures) (c .before .before .before .before .if1 .left) (c .before .if2 .left) (c .not-sent2 .ensures)
+returns-4 : tie.Need-returns-4
+returns-4 c = send-none _ _ _ _ _ _ (c .before .before .before .before .before .before .before .before .narrowed .ensures) (c .before .before .before .before .before .before .before .near-refusal .ensures) (c .before .before .before .before .before .end-of .ensures) _ (c .before .before .before .before .before .before .if1 .left) (c .before .before .lowest-with .ensures) (c .before .if3 .left) (c .not-sent2 .ensures)
 
 pub evtchn-cables-send-spec : {M : Type 1} → statement M
 evtchn-cables-send-spec =
@@ -43,8 +52,11 @@ evtchn-cables-send-spec =
     not-sent-requires
     returns
     end-of-requires
-    find-requires
-    other-end-requires
+    hinted-requires
+    far-at-requires
     returns-2
+    lowest-with-requires
+    far-at-requires-2
+    returns-3
     not-sent-requires-2
-    returns-3)
+    returns-4)

@@ -1,0 +1,13 @@
+pub mod FaceOf
+pub mod FaceStarts
+pub mod FaceReplies
+pub mod Face
+pub mod Fence
+pub mod EveryCall
+pub mod Projection
+pub mod Ends
+pub mod Passing
+pub mod Orders
+pub mod CableClaims
+pub mod Demands
+pub mod Examples

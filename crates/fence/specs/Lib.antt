@@ -1,0 +1,5 @@
+pub mod System
+pub mod Cables
+pub mod Fence
+pub mod Domains
+pub mod Examples

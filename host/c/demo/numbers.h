@@ -1,0 +1,24 @@
+/* Numbers as the demo prints them. */
+#ifndef DEMO_NUMBERS_H
+#define DEMO_NUMBERS_H
+
+#include <stdint.h>
+#include <stdio.h>
+
+/* A number with a comma before each group of three digits, right in its column. */
+static inline void print_number(uint64_t number, int width)
+{
+    char text[32];
+    int at = (int)sizeof text, digits = 0;
+    text[--at] = 0;
+    do {
+        if (digits > 0 && digits % 3 == 0)
+            text[--at] = ',';
+        text[--at] = (char)('0' + number % 10);
+        number /= 10;
+        digits++;
+    } while (number > 0);
+    printf("%*s", width, text + at);
+}
+
+#endif
