@@ -22,8 +22,8 @@
  * leaves the table alone.
  *
  * The same proved code is in libevtchn_fifo.a and libevtchn_fifo_kernel.a (not in the bitcode), as an object of its own that is linked only
- * where it is used. It has no globals, is reentrant and needs no other object of the archive. It may call memset and memcpy of the
- * environment. Beside what these two need, no function needs more than EVTCHN_CABLES_STACK bytes of stack.
+ * where it is used. It has no globals, is reentrant, and calls nothing outside itself. No function needs more than EVTCHN_CABLES_STACK
+ * bytes of stack.
  *
  * Table, records and ledgers of one call must not overlap; but the two records of a lay may be the same, and so may its two ledgers: they
  * are only read. Buffers may have any alignment, and may be NULL where their length is 0.

@@ -49,7 +49,7 @@ or-cases : (a b : Bool) → (a || b) ≡ true → (a ≡ true) ⊎ (b ≡ true)
 or-cases true b h = inl refl
 or-cases false b h = inr h
 
-pub has-holds : (s : Slot) (e : ℕ) → has s e ≡ true → holds s ≡ true
+has-holds : (s : Slot) (e : ℕ) → has s e ≡ true → holds s ≡ true
 unfolding has
 has-holds s e h = and-left (holds s) (eqb (s .one) e || eqb (s .two) e) h
 
@@ -97,6 +97,15 @@ none-taken t e h = go (taken t e) refl
 pub found-has : (t : List Slot) (hint e : ℕ) → taken t e ≡ true → has (slotOf t (find t hint e)) e ≡ true
 unfolding find
 found-has t hint e h = by-test (λ i. has (slotOf t i) e ≡ true) (has (slotOf t hint) e) (λ k. k) (λ k. taken-has t e h)
+
+-- the other end of a slot that has one is an end
+other-ends : (s : Slot) (e : ℕ) → holds s ≡ true → isEnd (other s e) ≡ true
+unfolding holds other
+other-ends s e h =
+    by-test (λ (x : ℕ). isEnd x ≡ true) (eqb (s .one) e) (λ k. and-right (isEnd (s .one)) (isEnd (s .two)) h) (λ k. and-left (isEnd (s .one)) (isEnd (s .two)) h)
+
+across-ends : (t : List Slot) (hint e : ℕ) → taken t e ≡ true → isEnd (across t hint e) ≡ true
+across-ends t hint e h = other-ends (slotOf t (find t hint e)) e (has-holds (slotOf t (find t hint e)) e (found-has t hint e h))
 
 find-lowest : (t : List Slot) (e hint : ℕ) → Single t → find t hint e ≡ lowestWith t e
 unfolding find
@@ -243,6 +252,7 @@ table-claims = record {
   lay-far = lay-far;
   lay-size = λ t a b. length-set t (lowestFree t) (slot a b);
   lay-single = λ t a b apart near far single. lay-single t a b near far apart single;
+  across-ends = across-ends;
   hints = λ t e hint other single. find-lowest t e hint single ∙ sym (find-lowest t e other single);
   fresh-single = record {
     slots = λ e i j h k. absurd (true≢false (sym h ∙ fresh-has e i));

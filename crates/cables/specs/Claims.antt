@@ -25,6 +25,8 @@ pub record TableClaims : Type 0 where
   pub lay-far : (t : List Slot) (a b hint : ℕ) → isEnd a ≡ true → isEnd b ≡ true → eqb a b ≡ false → taken t a ≡ false → taken t b ≡ false → hasRoom t ≡ true → across (laidAt t a b) hint b ≡ a
   pub lay-size : (t : List Slot) (a b : ℕ) → length (laidAt t a b) ≡ length t
   pub lay-single : (t : List Slot) (a b : ℕ) → eqb a b ≡ false → taken t a ≡ false → taken t b ≡ false → Single t → Single (laidAt t a b)
+  -- what a look-up leads to is an end, whatever the table held
+  pub across-ends : (t : List Slot) (hint e : ℕ) → taken t e ≡ true → isEnd (across t hint e) ≡ true
   -- where each end stands once, a hint changes no look-up
   pub hints : (t : List Slot) (e hint other : ℕ) → Single t → find t hint e ≡ find t other e
   -- a fresh table has no cable, and room
