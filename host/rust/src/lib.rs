@@ -1,8 +1,8 @@
 //! Host side of the library in Rust: an independent model of the FIFO event channel ABI, written
-//! from document 01; the C boundary as Rust calls it; and the tests that compare the two.
+//! from documents 01 and 02; the C boundary as Rust calls it; and the tests that compare the two.
 //!
-//! - `model`: document 01 in plain Rust, and document 02's replay of a log; `cases`: the scripts of
-//!   crate `cases` run by it
+//! - `model`: document 01 in plain Rust, and document 02's replay of a log and cables between
+//!   domains; `cases`: the scripts of crate `cases` run by it
 //! - `corpus`: good and damaged logs
 //! - `boundary`: the archive's functions over byte slices, with a decoder of its own
 //! - `differential`: the same steps by both, everything compared after each; `guarded`: buffers
@@ -18,7 +18,7 @@
 //! Program `model_bench` measures the model, and both replays, for `make bench`.
 //!
 //! Only these two programs use the replay functions: `differential` links with an archive that has
-//! none.
+//! none. It does use those of cables.
 //!
 //! `EVTCHN_FIFO_ARCHIVE` names another archive to link than the repository's, `EVTCHN_FIFO_CASES`
 //! another stored output of crate `cases`, `EVTCHN_REPLAY` another program `evtchn_replay`.

@@ -11,6 +11,11 @@ fn entry(two: &[u8]) -> Entry {
     Entry::from_bits(u16::from_le_bytes([two[0], two[1]]))
 }
 
+/// Entry `index`, where the bytes have one.
+pub fn entry_at(bytes: &[u8], index: usize) -> Option<Entry> {
+    bytes.chunks_exact(2).nth(index).map(entry)
+}
+
 /// Writes entry `index`, where the bytes have one.
 pub fn put_entry(bytes: &mut [u8], index: usize, entry: Entry) {
     if let Some(two) = bytes.chunks_exact_mut(2).nth(index) {

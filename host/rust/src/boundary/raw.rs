@@ -1,5 +1,6 @@
 //! The symbols of the archive. A slice is a pointer and a length, an array a pointer.
 
+use super::cables::{Far, Laid};
 use super::encoded::Encoded;
 use super::replay::{Position, Report};
 
@@ -96,6 +97,63 @@ extern "C" {
         text_length: usize,
     ) -> Position;
     pub fn evtchn_replay_report(position: Position) -> Report;
+    pub fn evtchn_cables_lay(
+        table: *mut u8,
+        table_length: usize,
+        near: *const u8,
+        near_length: usize,
+        near_ledger: *const u8,
+        near_ledger_length: usize,
+        far: *const u8,
+        far_length: usize,
+        far_ledger: *const u8,
+        far_ledger_length: usize,
+        near_domain: u64,
+        near_port: u64,
+        far_domain: u64,
+        far_port: u64,
+    ) -> Laid;
+    pub fn evtchn_cables_cut(
+        table: *mut u8,
+        table_length: usize,
+        domain: *const u8,
+        domain_length: usize,
+        ledger: *const u8,
+        ledger_length: usize,
+        number: u64,
+        port: u64,
+    ) -> u32;
+    pub fn evtchn_cables_send(
+        table: *const u8,
+        table_length: usize,
+        domain: *const u8,
+        domain_length: usize,
+        ledger: *const u8,
+        ledger_length: usize,
+        number: u64,
+        port: u64,
+        hint: u32,
+    ) -> Far;
+    pub fn evtchn_cables_close(
+        table: *mut u8,
+        table_length: usize,
+        domain: *mut u8,
+        domain_length: usize,
+        ledger: *mut u8,
+        ledger_length: usize,
+        number: u64,
+        port: u64,
+    ) -> Encoded;
+    pub fn evtchn_cables_reply(
+        table: *mut u8,
+        table_length: usize,
+        domain: *mut u8,
+        domain_length: usize,
+        ledger: *mut u8,
+        ledger_length: usize,
+        number: u64,
+        seen: u32,
+    ) -> Encoded;
 }
 
 #[cfg(test)]
@@ -169,8 +227,37 @@ mod tests {
     }
 
     #[test]
-    fn sizes_of_a_position_and_a_report() {
+    fn null_tables_and_records_of_cables() {
+        let (none, table) = (null(), null_mut());
+        // SAFETY: no bytes are lent.
+        let lay = |near, far| unsafe {
+            evtchn_cables_lay(
+                table, 0, none, 0, none, 0, none, 0, none, 0, near, 5, far, 5,
+            )
+        };
+        let codes = [(40, 0), (0, 40), (40, 40), (3, 3), (0, 1)].map(|(a, b)| lay(a, b).code);
+        assert_eq!(codes, [23, 23, 23, 24, 64]);
+        // SAFETY: no bytes are lent.
+        let cut = |number| unsafe { evtchn_cables_cut(table, 0, none, 0, none, 0, number, 5) };
+        assert_eq!([40, 39].map(cut), [23, 64]);
+        // SAFETY: no bytes are lent.
+        let send = |number| unsafe { evtchn_cables_send(none, 0, none, 0, none, 0, number, 5, 0) };
+        assert_eq!([40, 39].map(|number| send(number).code), [23, 64]);
+        // SAFETY: no bytes are lent.
+        let given = unsafe {
+            [
+                evtchn_cables_close(table, 0, table, 0, table, 0, 40, 5),
+                evtchn_cables_reply(table, 0, table, 0, table, 0, 40, 0),
+            ]
+        };
+        assert_eq!(given, [Encoded::TOO_SHORT; 2]);
+    }
+
+    #[test]
+    fn sizes_of_what_is_given() {
         let sizes = (size_of::<Position>(), size_of::<Report>());
         assert_eq!(sizes, (32, 16));
+        let sizes = (size_of::<Laid>(), size_of::<Far>());
+        assert_eq!(sizes, (8, 16));
     }
 }

@@ -71,7 +71,7 @@ fn length(random: &mut Random, size: usize) -> usize {
 }
 
 /// A hypervisor's record: random bytes, or random fields with codes that may be none of the list.
-fn random_domain(random: &mut Random, bytes: &mut Guarded) {
+pub(super) fn random_domain(random: &mut Random, bytes: &mut Guarded) {
     let length = length(random, DOMAIN_SIZE);
     random_bytes(random, bytes, length);
     if length < DOMAIN_SIZE {

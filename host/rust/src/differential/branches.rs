@@ -4,18 +4,6 @@ use super::pair::Before;
 use crate::model::decisions::queue_value;
 use crate::model::{Call, Domain, Entry, EventWord, Guest, Port, Queue, ServiceStage, Stage};
 
-macro_rules! points {
-    ($($name:ident = $text:literal),* $(,)?) => {
-        /// A branch of a stage.
-        #[derive(Clone, Copy, Debug, PartialEq, Eq)]
-        #[allow(missing_docs)]
-        pub enum Point { $($name),* }
-
-        /// Every branch with its name.
-        pub const POINTS: &[(Point, &str)] = &[$((Point::$name, $text)),*];
-    };
-}
-
 points! {
     BindLinked = "bind: seen LINKED",
     BindFree = "bind: seen not LINKED",

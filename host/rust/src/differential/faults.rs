@@ -25,12 +25,16 @@ impl Tried {
 
     /// The fault, then seed and step of each kind's first difference.
     pub fn line(&self) -> String {
-        let cell = |found: &Option<Difference>| match found {
-            Some(found) => format!("seed {} step {}", found.seed, found.steps),
-            None => "-".to_string(),
-        };
         let cells: Vec<String> = self.found.iter().map(cell).collect();
         format!("{:<36} | {}", self.fault, cells.join(" | "))
+    }
+}
+
+/// Seed and step of a difference.
+pub fn cell(found: &Option<Difference>) -> String {
+    match found {
+        Some(found) => format!("seed {} step {}", found.seed, found.steps),
+        None => "-".to_string(),
     }
 }
 

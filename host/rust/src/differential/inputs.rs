@@ -260,7 +260,7 @@ fn told(random: &mut Random) -> u64 {
 }
 
 /// A port in 1 to 131,071, seldom a large one.
-fn small_port(random: &mut Random) -> u64 {
+pub(super) fn small_port(random: &mut Random) -> u64 {
     match random.below(512) {
         0 => random.pick(&[131_071, 131_070, 65_536]),
         1..=16 => 1000 + random.below(50),
@@ -286,7 +286,7 @@ fn start_port(random: &mut Random, lines: Lines<'_>) -> u64 {
 }
 
 /// A ledger with or without an entry for the port; without, it may end just before it or in it.
-fn ledger(random: &mut Random, port: u64, missing: bool, bound: bool) -> Vec<u8> {
+pub(super) fn ledger(random: &mut Random, port: u64, missing: bool, bound: bool) -> Vec<u8> {
     let near = port.min(64) as usize;
     let entries = match missing {
         true if port < 2000 && random.once_in(2) => port as usize,

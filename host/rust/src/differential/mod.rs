@@ -7,9 +7,24 @@
 //!   `inputs`: what `refusals` tries
 //! - `campaign`: many histories; `faults`: the test of the tests
 //! - `large`: slices of more than 2^32 bytes
+//! - `cables`: several domains and their cables, with histories and faults of their own
+
+/// Things that a run must meet, each with its name.
+macro_rules! points {
+    ($($name:ident = $text:literal),* $(,)?) => {
+        /// One of them.
+        #[derive(Clone, Copy, Debug, PartialEq, Eq)]
+        #[allow(missing_docs)]
+        pub enum Point { $($name),* }
+
+        /// Every one with its name.
+        pub const POINTS: &[(Point, &str)] = &[$((Point::$name, $text)),*];
+    };
+}
 
 pub mod arbitrary;
 pub mod branches;
+pub mod cables;
 pub mod campaign;
 mod compare;
 pub mod coverage;

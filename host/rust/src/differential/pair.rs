@@ -133,18 +133,30 @@ impl Pair {
 
     /// Makes a step on both sides and compares; what was met is counted.
     pub fn step(&mut self, step: Step, coverage: &mut Coverage) -> Result<Stepped, String> {
+        let words = u64::from(self.world.guest.words);
+        let library = |lent: &mut Lent, seen| lent.step(step, seen, words);
+        self.step_by(step, coverage, library)
+    }
+
+    /// The same by another call of the library, which is given the word that a reply hands back.
+    pub fn step_by(
+        &mut self,
+        step: Step,
+        coverage: &mut Coverage,
+        library: impl FnOnce(&mut Lent, u32) -> Encoded,
+    ) -> Result<Stepped, String> {
         self.steps.push(step);
         self.keep();
         if self.is_short(step) {
-            return self.short_step(step);
+            let encoded = library(&mut self.lent, handed_back(step));
+            return self.short_step(encoded);
         }
         let port = self.port_of(step);
         let before = self.before(port);
-        let words = u64::from(self.world.guest.words);
         let stepped = self.world.step(step);
         let seen = seen(step, &stepped);
         self.events.extend_from_slice(&stepped.events);
-        let encoded = self.lent.step(step, seen, words);
+        let encoded = library(&mut self.lent, seen);
         let masked = matches!(step, Step::Mask(_) | Step::MaskWithin { .. });
         self.compare(masked, &stepped, encoded, port)
             .map_err(|text| format!("{step:?}, word handed back {seen:08X}: {text}"))?;
@@ -153,7 +165,8 @@ impl Pair {
         Ok(stepped)
     }
 
-    fn keep(&mut self) {
+    /// Keeps the bytes of both records.
+    pub(super) fn keep(&mut self) {
         self.kept.domain.clear();
         let domain = self.lent.domain.bytes();
         self.kept.domain.extend_from_slice(domain);
@@ -170,14 +183,23 @@ impl Pair {
     }
 
     /// A record too short gives 64 and is left alone, and so is the ledger.
-    fn short_step(&mut self, step: Step) -> Result<Stepped, String> {
-        let encoded = self.lent.step(step, handed_back(step), 0);
-        expect("short record", encoded, Encoded::TOO_SHORT)?;
-        self.compare_unchanged()?;
-        self.compare_ledger()?;
+    fn short_step(&mut self, encoded: Encoded) -> Result<Stepped, String> {
+        self.expect_short(encoded)?;
         let next = Next::Answer(Answer::Done, 0);
         let events = Events::NONE;
         Ok(Stepped { next, events })
+    }
+
+    /// 64, and nothing is changed.
+    pub(super) fn expect_short(&self, encoded: Encoded) -> Result<(), String> {
+        expect("short buffer", encoded, Encoded::TOO_SHORT)?;
+        self.expect_unchanged()
+    }
+
+    /// Both records and the ledger are as they were kept.
+    pub(super) fn expect_unchanged(&self) -> Result<(), String> {
+        self.compare_unchanged()?;
+        self.compare_ledger()
     }
 
     /// The port whose entry a step may look at.

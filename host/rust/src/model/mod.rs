@@ -1,15 +1,16 @@
-//! The independent model: document 01 in plain Rust, with its own data structures.
+//! The independent model: documents 01 and 02 in plain Rust, with its own data structures.
 //!
 //! - words and records: `kinds`, `word`, `entry`, `access`, `answer`, `domain`, `guest`, `flat`
 //! - rules: `starts` and `replies` (hypervisor), `service` (guest), `decisions`, `seeded`
 //! - `machine`: both sides' steps over lent memory; `log`: lines of the access log, both ways;
-//!   `replay`: a log played back
+//!   `replay`: a log played back; `cables`: forty domains and the cables between them
 //! - `claims`: demand 3's four parts and the account of PENDING
 //! - `histories`, `arbitrary`: random rule-keeping steps, random records
 
 pub mod access;
 pub mod answer;
 pub mod arbitrary;
+pub mod cables;
 pub mod claims;
 pub mod decisions;
 pub mod domain;

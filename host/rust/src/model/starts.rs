@@ -9,10 +9,10 @@ use super::seeded::Faults;
 use super::word::LINK_BITS;
 use super::Model;
 
-/// `Ok` where `answer`'s line does not hold.
-fn unless(holds: bool, answer: Answer) -> Result<(), Answer> {
+/// `Ok` where the line of a refusal does not hold.
+pub(super) fn unless<R>(holds: bool, refusal: R) -> Result<(), R> {
     if holds {
-        Err(answer)
+        Err(refusal)
     } else {
         Ok(())
     }
@@ -152,16 +152,39 @@ impl Model {
         port: u64,
         missing: Answer,
     ) -> Result<Port, Answer> {
-        free_and_given(domain)?;
-        let port = self.valid_port(port)?;
-        unless(port.index() >= ledger.len(), missing)?;
-        Ok(port)
+        unless(domain.call.is_some(), Answer::UnderWay)?;
+        self.port_with_entry(domain, ledger, port, missing)
     }
 
     /// 15, 10, 3, 14, 4.
     fn bound_port(&self, domain: &Domain, ledger: &[Entry], port: u64) -> Result<Port, Answer> {
-        let port = self.known_port(domain, ledger, port, self.missing_entry())?;
+        unless(domain.call.is_some(), Answer::UnderWay)?;
+        self.check(domain, ledger, port)
+    }
+
+    /// 10, 3, 14, 4: by the record and ledger as they stand, whatever is under way.
+    pub(super) fn check(
+        &self,
+        domain: &Domain,
+        ledger: &[Entry],
+        port: u64,
+    ) -> Result<Port, Answer> {
+        let port = self.port_with_entry(domain, ledger, port, self.missing_entry())?;
         unless(!ledger[port.index()].bound, Answer::NotBound)?;
+        Ok(port)
+    }
+
+    /// 10, 3, then `missing` where the ledger has no entry.
+    fn port_with_entry(
+        &self,
+        domain: &Domain,
+        ledger: &[Entry],
+        port: u64,
+        missing: Answer,
+    ) -> Result<Port, Answer> {
+        unless(!domain.given, Answer::NotGiven)?;
+        let port = self.valid_port(port)?;
+        unless(port.index() >= ledger.len(), missing)?;
         Ok(port)
     }
 

@@ -1,9 +1,13 @@
-//! Tests of the model: cases, readings, edges, random histories, seeded faults, logs played back.
+//! Tests of the model: cases, readings, edges, random histories, seeded faults, logs played back,
+//! cables.
 
 #[macro_use]
 mod support;
 
 mod arbitrary_records;
+mod cables_calls;
+mod cables_refusals;
+mod cables_table;
 mod cases;
 mod claims;
 mod edges;

@@ -73,9 +73,8 @@ fn print_row(name: &str, cells: [String; CAMPAIGNS.len()], total: &str, mark: &s
 }
 
 /// The longer run: every kind in turn from fresh seeds, until the time is over.
-pub fn run_for(seed: u64, minutes: u64, report: &mut Report) {
-    println!("seed {seed}, {minutes} minutes");
-    let end = Instant::now() + Duration::from_secs(60 * minutes);
+pub fn run_for(seed: u64, time: Duration, report: &mut Report) {
+    let end = Instant::now() + time;
     let mut pair = Pair::default();
     let mut met = CAMPAIGNS.map(|_| Coverage::default());
     let mut failed = [const { None }; CAMPAIGNS.len()];

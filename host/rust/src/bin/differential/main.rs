@@ -4,6 +4,7 @@
 //! `SEED=n` starts the histories from another seed; `MINUTES=n` runs them for n minutes from a seed
 //! that the clock gives.
 
+mod cables;
 mod cases;
 mod guards;
 mod histories;
@@ -15,6 +16,7 @@ use evtchn_fifo_host::differential::large;
 use evtchn_fifo_host::report::Report;
 use evtchn_fifo_host::settings::Settings;
 use std::process::ExitCode;
+use std::time::Duration;
 
 fn main() -> ExitCode {
     if guards::is_child() {
@@ -53,11 +55,17 @@ fn test(settings: &Settings, report: &mut Report) {
     guards::run(report);
     histories::run(settings.seed, report);
     histories::try_faults(report);
+    cables::run(settings.seed, report);
+    cables::try_faults(report);
     threads::run(settings.seed, report);
     cases::run(report);
 }
 
+/// Half of the time for the histories of one domain, half for those with cables.
 fn fuzz(settings: &Settings, minutes: u64, report: &mut Report) {
-    histories::run_for(settings.seed, minutes, report);
+    println!("seed {}, {minutes} minutes", settings.seed);
+    let half = Duration::from_secs(30 * minutes);
+    histories::run_for(settings.seed, half, report);
+    cables::run_for(settings.seed, half, report);
     threads::run(settings.seed, report);
 }
