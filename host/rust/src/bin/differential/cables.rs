@@ -1,9 +1,9 @@
 //! The histories with cables, what they met, and the table of their faults.
 
+use crate::rows;
 use evtchn_fifo_host::differential::cables::campaign::{Campaign, CAMPAIGNS};
 use evtchn_fifo_host::differential::cables::faults::try_fault;
 use evtchn_fifo_host::differential::cables::{large, Cabled, Met};
-use evtchn_fifo_host::differential::coverage::WANTED;
 use evtchn_fifo_host::differential::faults::cell;
 use evtchn_fifo_host::model::cables::{CableFault, Cables};
 use evtchn_fifo_host::report::Report;
@@ -65,26 +65,9 @@ fn judge(met: &[Met; CAMPAIGNS.len()], report: &mut Report) {
         calls if calls >= CALLS => Ok(format!("{calls}")),
         calls => Err(format!("{calls}, wanted {CALLS}")),
     });
-    print_row(
-        "met",
-        CAMPAIGNS.map(|kind| kind.name.to_string()),
-        "total",
-        "",
-    );
-    let parts: Vec<_> = met.iter().map(Met::counts).collect();
-    for (at, (name, times)) in total.counts().into_iter().enumerate() {
-        let passed = times >= WANTED;
-        report.count(passed);
-        let mark = if passed { "" } else { "TOO FEW" };
-        let cells = std::array::from_fn(|part| parts[part][at].1.to_string());
-        print_row(&name, cells, &times.to_string(), mark);
-    }
-}
-
-fn print_row(name: &str, cells: [String; CAMPAIGNS.len()], total: &str, mark: &str) {
-    let cells = cells.map(|cell| format!("{cell:>8}")).join(" ");
-    let line = format!("{name:<54} {cells} {total:>8} {mark}");
-    println!("{}", line.trim_end());
+    let kinds = CAMPAIGNS.map(|campaign| campaign.name);
+    let parts = std::array::from_fn(|kind| met[kind].counts());
+    rows::judge(kinds, parts, total.counts(), report);
 }
 
 /// The longer run: every kind in turn from fresh seeds, until the time is over.

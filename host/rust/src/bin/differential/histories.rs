@@ -1,7 +1,8 @@
 //! The histories of every kind, what they met, and the table of faults.
 
+use crate::rows;
 use evtchn_fifo_host::differential::campaign::{Campaign, CAMPAIGNS};
-use evtchn_fifo_host::differential::coverage::{Coverage, WANTED};
+use evtchn_fifo_host::differential::coverage::Coverage;
 use evtchn_fifo_host::differential::faults::{head, try_fault};
 use evtchn_fifo_host::differential::pair::Pair;
 use evtchn_fifo_host::model::{Faults, Model};
@@ -50,26 +51,9 @@ fn judge(met: &[Coverage], report: &mut Report) {
         steps if steps >= STEPS => Ok(format!("{steps}")),
         steps => Err(format!("{steps}, wanted {STEPS}")),
     });
-    print_row(
-        "met",
-        CAMPAIGNS.map(|campaign| campaign.name.to_string()),
-        "total",
-        "",
-    );
-    let parts: Vec<_> = met.iter().map(Coverage::counts).collect();
-    for (at, (name, times)) in total.counts().into_iter().enumerate() {
-        let passed = times >= WANTED;
-        report.count(passed);
-        let mark = if passed { "" } else { "TOO FEW" };
-        let cells = std::array::from_fn(|part| parts[part][at].1.to_string());
-        print_row(&name, cells, &times.to_string(), mark);
-    }
-}
-
-fn print_row(name: &str, cells: [String; CAMPAIGNS.len()], total: &str, mark: &str) {
-    let cells = cells.map(|cell| format!("{cell:>9}")).join(" ");
-    let line = format!("{name:<54} {cells} {total:>9} {mark}");
-    println!("{}", line.trim_end());
+    let kinds = CAMPAIGNS.map(|campaign| campaign.name);
+    let parts = std::array::from_fn(|kind| met[kind].counts());
+    rows::judge(kinds, parts, total.counts(), report);
 }
 
 /// The longer run: every kind in turn from fresh seeds, until the time is over.

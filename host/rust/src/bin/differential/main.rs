@@ -8,6 +8,7 @@ mod cables;
 mod cases;
 mod guards;
 mod histories;
+mod rows;
 mod threads;
 
 use evtchn_fifo_host::boundary::{calls, records};
