@@ -18,8 +18,8 @@
  *
  * A host with cables makes EVERY close of EVERY domain by evtchn_cables_close, and hands back the word of its access by
  * evtchn_cables_reply: these cut the cable as the port ceases to be bound. A plain evtchn_fifo_close leaves a cable at a port that is not
- * bound any more. All other calls and their replies stay as they are; evtchn_cables_reply serves them too, at some 26 instructions more, and
- * leaves the table alone.
+ * bound any more. All other calls and their replies stay as they are; evtchn_cables_reply serves them too, at some 26 instructions more,
+ * and leaves the table alone.
  *
  * The same proved code is in libevtchn_fifo.a and libevtchn_fifo_kernel.a (not in the bitcode), as an object of its own that is linked only
  * where it is used. It has no globals, is reentrant, and calls nothing outside itself. No function needs more than EVTCHN_CABLES_STACK
