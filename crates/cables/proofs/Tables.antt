@@ -49,7 +49,7 @@ or-cases : (a b : Bool) → (a || b) ≡ true → (a ≡ true) ⊎ (b ≡ true)
 or-cases true b h = inl refl
 or-cases false b h = inr h
 
-has-holds : (s : Slot) (e : ℕ) → has s e ≡ true → holds s ≡ true
+pub has-holds : (s : Slot) (e : ℕ) → has s e ≡ true → holds s ≡ true
 unfolding has
 has-holds s e h = and-left (holds s) (eqb (s .one) e || eqb (s .two) e) h
 
