@@ -8,50 +8,50 @@
 
 #define ENTRIES 4096u
 
-typedef struct tenant {
+typedef struct vm {
     evtchn_fifo_domain domain;
     evtchn_fifo_guest guest;
     uint16_t ledger[ENTRIES];
     uint32_t page[EVTCHN_FIFO_PAGE_WORDS], control[EVTCHN_FIFO_CONTROL_WORDS];
     uint32_t *pages[1];
     evtchn_fifo_shared shared;
-} tenant;
+} vm;
 
-static tenant tenants[EVTCHN_CABLES_DOMAINS];
+static vm vms[EVTCHN_CABLES_DOMAINS];
 static evtchn_cables cables;
 
-/* A tenant with one page and one port that is bound. */
-static void begin(tenant *t, uint32_t port)
+/* A virtual machine with one page and one port that is bound. */
+static void begin(vm *v, uint32_t port)
 {
     evtchn_fifo_next next;
-    t->pages[0] = t->page;
-    t->shared.control = t->control;
-    t->shared.pages = t->pages;
-    t->shared.words = EVTCHN_FIFO_PAGE_WORDS;
-    evtchn_fifo_domain_fresh(&t->domain);
-    evtchn_fifo_guest_fresh(&t->guest);
-    evtchn_fifo_ledger_fresh(t->ledger, ENTRIES);
-    evtchn_fifo_domain_init_control(&t->domain, 0, 0x1000, 0x2000, 0);
-    evtchn_fifo_domain_expand_array(&t->domain, 0x1001, 0x2000);
-    evtchn_fifo_guest_tell(&t->guest, EVTCHN_FIFO_PAGE_WORDS);
-    next = evtchn_fifo_domain_bind(&t->domain, t->ledger, ENTRIES, port);
-    evtchn_fifo_domain_run(&t->domain, t->ledger, ENTRIES, &t->shared, next);
+    v->pages[0] = v->page;
+    v->shared.control = v->control;
+    v->shared.pages = v->pages;
+    v->shared.words = EVTCHN_FIFO_PAGE_WORDS;
+    evtchn_fifo_domain_fresh(&v->domain);
+    evtchn_fifo_guest_fresh(&v->guest);
+    evtchn_fifo_ledger_fresh(v->ledger, ENTRIES);
+    evtchn_fifo_domain_init_control(&v->domain, 0, 0x1000, 0x2000, 0);
+    evtchn_fifo_domain_expand_array(&v->domain, 0x1001, 0x2000);
+    evtchn_fifo_guest_tell(&v->guest, EVTCHN_FIFO_PAGE_WORDS);
+    next = evtchn_fifo_domain_bind(&v->domain, v->ledger, ENTRIES, port);
+    evtchn_fifo_domain_run(&v->domain, v->ledger, ENTRIES, &v->shared, next);
 }
 
 static evtchn_cables_end end_of(uint32_t number, uint32_t port)
 {
-    evtchn_cables_end end = {&tenants[number].domain, tenants[number].ledger, ENTRIES, number, port};
+    evtchn_cables_end end = {&vms[number].domain, vms[number].ledger, ENTRIES, number, port};
     return end;
 }
 
 /* The raise of a port, and its service. */
-static void deliver(tenant *t, uint32_t port)
+static void deliver(vm *v, uint32_t port)
 {
-    evtchn_fifo_next next = evtchn_fifo_domain_raise(&t->domain, t->ledger, ENTRIES, port);
-    next = evtchn_fifo_domain_run(&t->domain, t->ledger, ENTRIES, &t->shared, next);
+    evtchn_fifo_next next = evtchn_fifo_domain_raise(&v->domain, v->ledger, ENTRIES, port);
+    next = evtchn_fifo_domain_run(&v->domain, v->ledger, ENTRIES, &v->shared, next);
     printf("raise: answer %u after %u accesses\n", (unsigned)next.code, (unsigned)next.value);
     if (next.code == EVTCHN_FIFO_UPCALL_WANTED)
-        next = evtchn_fifo_guest_run(&t->guest, &t->shared, evtchn_fifo_guest_service(&t->guest));
+        next = evtchn_fifo_guest_run(&v->guest, &v->shared, evtchn_fifo_guest_service(&v->guest));
     printf("service: answer %u, port %u\n", (unsigned)next.code, (unsigned)next.index);
 }
 
@@ -60,22 +60,22 @@ static void send(uint32_t number, uint32_t port, uint32_t hint)
     evtchn_cables_far far = evtchn_cables_send_from(&cables, end_of(number, port), hint);
     printf("send from port %u of domain %u: answer %u\n", (unsigned)port, (unsigned)number, (unsigned)far.code);
     if (far.code == EVTCHN_FIFO_DONE)
-        deliver(&tenants[far.domain], far.port);
+        deliver(&vms[far.domain], far.port);
 }
 
 static void close_port(uint32_t number, uint32_t port)
 {
-    tenant *t = &tenants[number];
-    evtchn_fifo_next next = evtchn_cables_domain_close(&cables, number, &t->domain, t->ledger, ENTRIES, port);
-    next = evtchn_cables_domain_run(&cables, number, &t->domain, t->ledger, ENTRIES, &t->shared, next);
+    vm *v = &vms[number];
+    evtchn_fifo_next next = evtchn_cables_domain_close(&cables, number, &v->domain, v->ledger, ENTRIES, port);
+    next = evtchn_cables_domain_run(&cables, number, &v->domain, v->ledger, ENTRIES, &v->shared, next);
     printf("close of port %u of domain %u: answer %u\n", (unsigned)port, (unsigned)number, (unsigned)next.code);
 }
 
 int main(void)
 {
     evtchn_cables_laid laid;
-    begin(&tenants[1], 5);
-    begin(&tenants[2], 9);
+    begin(&vms[1], 5);
+    begin(&vms[2], 9);
     laid = evtchn_cables_join(&cables, end_of(1, 5), end_of(2, 9));
     printf("lay: answer %u, slot %u\n", (unsigned)laid.code, (unsigned)laid.slot);
     send(1, 5, laid.slot);

@@ -11,7 +11,7 @@ use lib.ListN.{length, getD, length-set, getD-replicate, length-replicate, List�
 use lib.Seq.{getD-set-same, getD-set-other, set-out}
 use lib.Dec.{eqb, ltb}
 use Rattle.calls.proofs.Cases.{by-test}
-use Rattle.cables.specs.Table.{Slot, slot, empty, slotCount, domainOf, portOf, isEnd, holds, has, other, slotOf, lowestWith, lowestFree, taken, hasRoom, find, across, laidAt, cutSlot, cutAt, Single}
+use Rattle.cables.specs.Table.{Slot, slot, empty, slotCount, domainOf, portOf, isEnd, holds, has, other, slotOf, lowestWith, lowestFree, taken, hasSpace, find, across, laidAt, cutSlot, cutAt, Single}
 use Rattle.cables.specs.Claims.{fresh, TableClaims}
 use Rattle.cables.proofs.Lowest.{lowest-at, lowest-there}
 
@@ -131,7 +131,7 @@ pub cut-size : (t : List Slot) (e : ℕ) → length (cutAt t e) ≡ length t
 cut-size [] e = refl
 cut-size (s ∷ t) e = ap suc (cut-size t e)
 
-cut-frees : (t : List Slot) (e : ℕ) → taken t e ≡ true → hasRoom (cutAt t e) ≡ true
+cut-frees : (t : List Slot) (e : ℕ) → taken t e ≡ true → hasSpace (cutAt t e) ≡ true
 cut-frees t e h =
     let i = lowestWith t e in
     let k = taken-has t e h in
@@ -156,8 +156,8 @@ cut-single t e single = record {
 -- ---- lay
 
 -- the slot that is laid, and the others
-pub lay-slot : (t : List Slot) (a b : ℕ) → hasRoom t ≡ true → slotOf (laidAt t a b) (lowestFree t) ≡ slot a b
-lay-slot t a b room = getD-set-same t (lowestFree t) (slot a b) empty (ltb-true (lowestFree t) (length t) room)
+pub lay-slot : (t : List Slot) (a b : ℕ) → hasSpace t ≡ true → slotOf (laidAt t a b) (lowestFree t) ≡ slot a b
+lay-slot t a b space = getD-set-same t (lowestFree t) (slot a b) empty (ltb-true (lowestFree t) (length t) space)
 
 pub lay-others : (t : List Slot) (a b i : ℕ) → i ≢ lowestFree t → slotOf (laidAt t a b) i ≡ slotOf t i
 lay-others t a b i apart = getD-set-other t (lowestFree t) i (slot a b) empty apart
@@ -168,9 +168,9 @@ pub data Laid (t : List Slot) (a b i : ℕ) : Type 0 where
   old : slotOf (laidAt t a b) i ≡ slotOf t i → Laid t a b i
 
 pub laid-slot : (t : List Slot) (a b i : ℕ) → Laid t a b i
-laid-slot t a b i = go (eqb i (lowestFree t)) refl (hasRoom t) refl
+laid-slot t a b i = go (eqb i (lowestFree t)) refl (hasSpace t) refl
   where
-    go : (c : Bool) → eqb i (lowestFree t) ≡ c → (r : Bool) → hasRoom t ≡ r → Laid t a b i
+    go : (c : Bool) → eqb i (lowestFree t) ≡ c → (r : Bool) → hasSpace t ≡ r → Laid t a b i
     go false k r h = old (lay-others t a b i (eqb-false i (lowestFree t) k))
     go true k true h = new (eqb-true i (lowestFree t) k) (ap (λ (j : ℕ). slotOf (laidAt t a b) j) (eqb-true i (lowestFree t) k) ∙ lay-slot t a b h)
     go true k false h = old (ap (λ l. slotOf l i) (set-out t (lowestFree t) (slot a b) (ltb-false (lowestFree t) (length t) h)))
@@ -201,10 +201,10 @@ module _ (t : List Slot) (a b : ℕ) (near : taken t a ≡ false) (far : taken t
   }
 
   -- where the new cable's ends are ends, every look-up of one of them finds it
-  module _ (e hint : ℕ) (room : hasRoom t ≡ true) (new-has : has (slot a b) e ≡ true) where
+  module _ (e hint : ℕ) (space : hasSpace t ≡ true) (new-has : has (slot a b) e ≡ true) where
     found-new : slotOf (laidAt t a b) (find (laidAt t a b) hint e) ≡ slot a b
     found-new = go (laid-slot t a b (find (laidAt t a b) hint e))
-        (found-has (laidAt t a b) hint e (has-taken (laidAt t a b) e (lowestFree t) (ap (λ s. has s e) (lay-slot t a b room) ∙ new-has)))
+        (found-has (laidAt t a b) hint e (has-taken (laidAt t a b) e (lowestFree t) (ap (λ s. has s e) (lay-slot t a b space) ∙ new-has)))
       where
         go : Laid t a b (find (laidAt t a b) hint e) → has (slotOf (laidAt t a b) (find (laidAt t a b) hint e)) e ≡ true → slotOf (laidAt t a b) (find (laidAt t a b) hint e) ≡ slot a b
         go (new p x) h = x
@@ -214,15 +214,15 @@ holds-new : (a b : ℕ) → isEnd a ≡ true → isEnd b ≡ true → holds (slo
 unfolding holds
 holds-new a b i j = rw (i, j)
 
-lay-near : (t : List Slot) (a b hint : ℕ) → isEnd a ≡ true → isEnd b ≡ true → eqb a b ≡ false → taken t a ≡ false → taken t b ≡ false → hasRoom t ≡ true → across (laidAt t a b) hint a ≡ b
+lay-near : (t : List Slot) (a b hint : ℕ) → isEnd a ≡ true → isEnd b ≡ true → eqb a b ≡ false → taken t a ≡ false → taken t b ≡ false → hasSpace t ≡ true → across (laidAt t a b) hint a ≡ b
 unfolding other
-lay-near t a b hint i j apart near far room =
-    rw (found-new t a b near far a hint room (has-one (slot a b) (holds-new a b i j)), eq-eqb a a refl)
+lay-near t a b hint i j apart near far space =
+    rw (found-new t a b near far a hint space (has-one (slot a b) (holds-new a b i j)), eq-eqb a a refl)
 
-lay-far : (t : List Slot) (a b hint : ℕ) → isEnd a ≡ true → isEnd b ≡ true → eqb a b ≡ false → taken t a ≡ false → taken t b ≡ false → hasRoom t ≡ true → across (laidAt t a b) hint b ≡ a
+lay-far : (t : List Slot) (a b hint : ℕ) → isEnd a ≡ true → isEnd b ≡ true → eqb a b ≡ false → taken t a ≡ false → taken t b ≡ false → hasSpace t ≡ true → across (laidAt t a b) hint b ≡ a
 unfolding other
-lay-far t a b hint i j apart near far room =
-    rw (found-new t a b near far b hint room (has-two (slot a b) (holds-new a b i j)), apart)
+lay-far t a b hint i j apart near far space =
+    rw (found-new t a b near far b hint space (has-two (slot a b) (holds-new a b i j)), apart)
 
 -- ---- a fresh table
 
@@ -236,8 +236,8 @@ fresh-slot i = go (ltb i slotCount) refl
 fresh-has : (e i : ℕ) → has (slotOf fresh i) e ≡ false
 fresh-has e i = rw (fresh-slot i) (has-empty e)
 
-fresh-room : hasRoom fresh ≡ true
-fresh-room =
+fresh-space : hasSpace fresh ≡ true
+fresh-space =
     lt-ltb (lowestFree fresh) (length fresh)
     (lowest-there (λ s. not (holds s)) fresh 0 (rw (length-replicate slotCount empty) (omega arith)) (ap (λ s. not (holds s)) (fresh-slot 0) ∙ ap not empty-free))
 
@@ -259,5 +259,5 @@ table-claims = record {
     ends = λ i h. absurd (true≢false (sym (rw (fresh-slot i) at h) ∙ empty-free));
   };
   fresh-none = λ e. none-taken fresh e (fresh-has e);
-  fresh-room = fresh-room;
+  fresh-space = fresh-space;
 }

@@ -17,7 +17,7 @@ use Rattle.calls.specs.declared.hypervisor.start.PortAcceptance.the-variants as
 use Rattle.calls.specs.Answers.{codeOf}
 use Rattle.calls.specs.Records.{entryAt}
 use Rattle.calls.specs.Hypervisor.{acceptPort}
-use Rattle.cables.specs.Table.{Slot, domainLimit, end, taken, hasRoom, laidAt, cutAt}
+use Rattle.cables.specs.Table.{Slot, domainLimit, end, taken, hasSpace, laidAt, cutAt}
 
 -- ---- a port's own refusals: 10, 3, 14, 4; 0 where it passes. A call under way does not matter, so it is as if none were
 
@@ -36,7 +36,7 @@ portRefusal n d ledger p = refusalBy n (d .given) p (entryAt ledger p)
 unfoldable pub joinRefusal : List Slot → ℕ → ℕ → ℕ
 joinRefusal t a b =
     cond (taken t a || taken t b) 25
-    (cond (hasRoom t) 0 34)
+    (cond (hasSpace t) 0 34)
 
 unfoldable pub layRefusal : ℕ → ℕ → ℕ → ℕ → List Slot → ℕ → ℕ → ℕ
 layRefusal d e c k t a b =

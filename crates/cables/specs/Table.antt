@@ -71,8 +71,8 @@ lowestFree t = lowest (λ s. not (holds s)) t
 abbrev pub taken : List Slot → ℕ → Bool
 taken t e = ltb (lowestWith t e) (length t)
 
-abbrev pub hasRoom : List Slot → Bool
-hasRoom t = ltb (lowestFree t) (length t)
+abbrev pub hasSpace : List Slot → Bool
+hasSpace t = ltb (lowestFree t) (length t)
 
 -- look-up: the hinted slot if it has the end, else the lowest that has it
 unfoldable pub find : List Slot → ℕ → ℕ → ℕ

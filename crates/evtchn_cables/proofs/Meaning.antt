@@ -31,7 +31,7 @@ use Rattle.evtchn_fifo.specs.Claims.{Beyond}
 use Rattle.evtchn_fifo.proofs.LedgerLaws.{entry-is}
 use Rattle.evtchn_fifo.proofs.BeyondBytes.{stays}
 use Rattle.evtchn_fifo.proofs.Meaning.{domain-calls}
-use Rattle.cables.specs.Table.{Slot, empty, slotCount, domainLimit, end, slotOf, lowestFree, taken, hasRoom, cutAt}
+use Rattle.cables.specs.Table.{Slot, empty, slotCount, domainLimit, end, slotOf, lowestFree, taken, hasSpace, cutAt}
 use Rattle.cables.specs.Rules.{portRefusal, joinRefusal, layRefusal, nearRefusal, tableLaid, tableCut, fallenAt, fallen, tableFallen}
 use Rattle.cables.specs.Claims.{fresh}
 use Rattle.evtchn_cables.specs.TableBytes.{tableSize, tableAt, cutBytes}
@@ -49,9 +49,9 @@ own-is : (n : ℕ) (r l : List ℕ) (p : ℕ) → domainSize ≤ length r → po
 unfolding portRefusalBytes domainAt
 own-is n r l p h = rw (long domainSize r h, entry-is l p)
 
-module _ (n : ℕ) (t r l : List ℕ) (d p : ℕ) (room : tableSize ≤ length t) (whole : domainSize ≤ length r) where
+module _ (n : ℕ) (t r l : List ℕ) (d p : ℕ) (space : tableSize ≤ length t) (whole : domainSize ≤ length r) where
   not-short : isShort t r ≡ false
-  not-short = rw (long tableSize t room, long domainSize r whole)
+  not-short = rw (long tableSize t space, long domainSize r whole)
 
   near-is : nearCode n t r l d p ≡ nearRefusal d (portRefusal n (domainAt r) (ledgerAt l) p) (tableAt t) (end d p)
   unfolding lentRefusal
@@ -68,28 +68,28 @@ module _ (n : ℕ) (t r l : List ℕ) (d p : ℕ) (room : tableSize ≤ length t
 -- ---- the table after a call
 
 -- a lay that answers 0 has room
-room-of : (t : List Slot) (a b : ℕ) → eqb (joinRefusal t a b) 0 ≡ true → hasRoom t ≡ true
+space-of : (t : List Slot) (a b : ℕ) → eqb (joinRefusal t a b) 0 ≡ true → hasSpace t ≡ true
 unfolding joinRefusal
-room-of t a b = go (taken t a || taken t b) (hasRoom t)
+space-of t a b = go (taken t a || taken t b) (hasSpace t)
   where
     go : (x y : Bool) → eqb (cond x 25 (cond y 0 34)) 0 ≡ true → y ≡ true
     go true y h = absurd (false≢true h)
     go false true h = refl
     go false false h = absurd (false≢true h)
 
-lay-room : (d e c k : ℕ) (t : List Slot) (a b : ℕ) → eqb (layRefusal d e c k t a b) 0 ≡ true → hasRoom t ≡ true
+lay-space : (d e c k : ℕ) (t : List Slot) (a b : ℕ) → eqb (layRefusal d e c k t a b) 0 ≡ true → hasSpace t ≡ true
 unfolding layRefusal
-lay-room d e c k t a b = go (leb domainLimit d || leb domainLimit e) (eqb d e) (eqb c 0) refl (eqb k 0) refl
+lay-space d e c k t a b = go (leb domainLimit d || leb domainLimit e) (eqb d e) (eqb c 0) refl (eqb k 0) refl
   where
-    go : (x y u : Bool) → eqb c 0 ≡ u → (v : Bool) → eqb k 0 ≡ v → eqb (cond x 23 (cond y 24 (cond (not u) c (cond (not v) k (joinRefusal t a b))))) 0 ≡ true → hasRoom t ≡ true
+    go : (x y u : Bool) → eqb c 0 ≡ u → (v : Bool) → eqb k 0 ≡ v → eqb (cond x 23 (cond y 24 (cond (not u) c (cond (not v) k (joinRefusal t a b))))) 0 ≡ true → hasSpace t ≡ true
     go true y u p v q h = absurd (false≢true h)
     go false true u p v q h = absurd (false≢true h)
     go false false false p v q h = absurd (false≢true (sym p ∙ h))
     go false false true p false q h = absurd (false≢true (sym q ∙ h))
-    go false false true p true q h = room-of t a b h
+    go false false true p true q h = space-of t a b h
 
-module _ (t : List ℕ) (room : tableSize ≤ length t) where
-  lay-table : (code a b : ℕ) → (eqb code 0 ≡ true → hasRoom (tableAt t) ≡ true) →
+module _ (t : List ℕ) (space : tableSize ≤ length t) where
+  lay-table : (code a b : ℕ) → (eqb code 0 ≡ true → hasSpace (tableAt t) ≡ true) →
       meantLay (layDid code t a b) ≡ meant code (cond (eqb code 0) (lowestFree (tableAt t)) 0) (tableLaid code (tableAt t) a b)
   lay-table code a b free = go (eqb code 0) refl
     where
@@ -98,13 +98,13 @@ module _ (t : List ℕ) (room : tableSize ≤ length t) where
       go true h =
           rw (eqb-true code 0 h)
           (ap (λ (u : List Slot). meant 0 (lowestFree (tableAt t)) u)
-          (table-put t (lowestFree (tableAt t)) a b room (subst (λ (k : ℕ). lowestFree (tableAt t) < k) (table-length t) (ltb-true (lowestFree (tableAt t)) (length (tableAt t)) (free h)))))
+          (table-put t (lowestFree (tableAt t)) a b space (subst (λ (k : ℕ). lowestFree (tableAt t) < k) (table-length t) (ltb-true (lowestFree (tableAt t)) (length (tableAt t)) (free h)))))
 
   cut-table : (code e : ℕ) → meantCut (cutDid code t e) ≡ meant code 0 (tableCut code (tableAt t) e)
   cut-table code e = ap (λ (u : List Slot). meant code 0 u) (go (eqb code 0))
     where
       go : (c : Bool) → tableAt (cond c (cutBytes t e) t) ≡ cond c (cutAt (tableAt t) e) (tableAt t)
-      go true = table-cut t e room
+      go true = table-cut t e space
       go false = refl
 
   fall-table : (d p : ℕ) → tableAt (fallBytes t d p) ≡ tableFallen d p (tableAt t)
@@ -113,7 +113,7 @@ module _ (t : List ℕ) (room : tableSize ≤ length t) where
     where
       go : (c : Bool) → tableAt (cond c t (cutBytes t (end d p))) ≡ cond c (tableAt t) (cutAt (tableAt t) (end d p))
       go true = refl
-      go false = table-cut t (end d p) room
+      go false = table-cut t (end d p) space
 
 -- ---- where a close's ledger change falls
 
@@ -175,23 +175,23 @@ module _ (n : ℕ) where
   close-table : (t r l : List ℕ) (d p : ℕ) → tableSize ≤ length t → domainSize ≤ length r →
       tableAt (closeCables n t r l d p .table) ≡ tableFallen d (fallen (closeStart n (domainAt r) (ledgerAt l) (portAt (narrow p)) .outcome .next) (narrow p)) (tableAt t)
   unfolding closeCables
-  close-table t r l d p room h =
-      rw (long tableSize t room)
-      (fall-table t room d (fallenAt (closeBytes n r l p .next .code) (narrow p))
+  close-table t r l d p space h =
+      rw (long tableSize t space)
+      (fall-table t space d (fallenAt (closeBytes n r l p .next .code) (narrow p))
       ∙ ap (λ (k : ℕ). tableFallen d k (tableAt t))
       (ap (λ x. fallenAt (x .code) (narrow p)) (ap (λ z. z .next) (domain-calls n .close p .means r l h)) ∙ fallen-is (closeStart n (domainAt r) (ledgerAt l) (portAt (narrow p)) .outcome .next) (narrow p)))
 
   reply-table : (t r l : List ℕ) (d seen : ℕ) → tableSize ≤ length t → domainSize ≤ length r →
       tableAt (replyCables n t r l d seen .table) ≡ tableFallen d (fallen (replyOf n (domainAt r) (ledgerAt l) seen .outcome .next) (closingPort (domainAt r .call))) (tableAt t)
   unfolding replyCables
-  reply-table t r l d seen room h =
-      rw (long tableSize t room)
-      (fall-table t room d (fallenAt (replyBytes n r l seen .next .code) (closingIn r))
+  reply-table t r l d seen space h =
+      rw (long tableSize t space)
+      (fall-table t space d (fallenAt (replyBytes n r l seen .next .code) (closingIn r))
       ∙ ap (λ (k : ℕ). tableFallen d k (tableAt t))
       (ap (λ x. fallenAt (x .code) (closingIn r)) (ap (λ z. z .next) (domain-calls n .reply seen .means r l h)) ∙ fallen-is (replyOf n (domainAt r) (ledgerAt l) seen .outcome .next) (closingIn r)
       ∙ ap (λ (k : ℕ). fallen (replyOf n (domainAt r) (ledgerAt l) seen .outcome .next) k) (closing-is r h)))
 
-  lay-beyond : (t : List ℕ) (code a b : ℕ) → (eqb code 0 ≡ true → hasRoom (tableAt t) ≡ true) → Beyond tableSize t (layDid code t a b .table)
+  lay-beyond : (t : List ℕ) (code a b : ℕ) → (eqb code 0 ≡ true → hasSpace (tableAt t) ≡ true) → Beyond tableSize t (layDid code t a b .table)
   lay-beyond t code a b free = go (eqb code 0) refl
     where
       go : (c : Bool) → eqb code 0 ≡ c → Beyond tableSize t (layDid code t a b .table)
@@ -206,17 +206,17 @@ module _ (n : ℕ) where
   pub cable-calls : CableCalls n
   unfolding layCode closeCables replyCables
   cable-calls = record {
-    lay = λ t r l s m d p e q room h k.
-        let code = lay-is n t r l d (narrow p) room h s m e (narrow q) k in
-        lay-table t room (layCode n t r l s m d (narrow p) e (narrow q)) (end d (narrow p)) (end e (narrow q)) (lay-room d e _ _ (tableAt t) (end d (narrow p)) (end e (narrow q)))
+    lay = λ t r l s m d p e q space h k.
+        let code = lay-is n t r l d (narrow p) space h s m e (narrow q) k in
+        lay-table t space (layCode n t r l s m d (narrow p) e (narrow q)) (end d (narrow p)) (end e (narrow q)) (lay-space d e _ _ (tableAt t) (end d (narrow p)) (end e (narrow q)))
         ∙ ap (λ (c : ℕ). meant c (cond (eqb c 0) (lowestFree (tableAt t)) 0) (tableLaid c (tableAt t) (end d (narrow p)) (end e (narrow q)))) code;
-    cut = λ t r l d p room h.
-        cut-table t room (nearCode n t r l d (narrow p)) (end d (narrow p))
-        ∙ ap (λ (c : ℕ). meant c 0 (tableCut c (tableAt t) (end d (narrow p)))) (near-is n t r l d (narrow p) room h);
-    send = λ t r l d p hint room h. ap (λ (c : ℕ). farFound c t hint (end d (narrow p))) (near-is n t r l d (narrow p) room h);
-    close = λ t r l d p room. rw (long tableSize t room);
+    cut = λ t r l d p space h.
+        cut-table t space (nearCode n t r l d (narrow p)) (end d (narrow p))
+        ∙ ap (λ (c : ℕ). meant c 0 (tableCut c (tableAt t) (end d (narrow p)))) (near-is n t r l d (narrow p) space h);
+    send = λ t r l d p hint space h. ap (λ (c : ℕ). farFound c t hint (end d (narrow p))) (near-is n t r l d (narrow p) space h);
+    close = λ t r l d p space. rw (long tableSize t space);
     close-table = close-table;
-    reply = λ t r l d seen room. rw (long tableSize t room);
+    reply = λ t r l d seen space. rw (long tableSize t space);
     reply-table = reply-table;
     zeros = zeros;
     lay-refused = λ t r l s m d p e q h. lay-kept t (layCode n t r l s m d (narrow p) e (narrow q)) (end d (narrow p)) (end e (narrow q)) h;
@@ -224,7 +224,7 @@ module _ (n : ℕ) where
     close-short = λ t r l d p h. rw (lt-ltb (length t) tableSize h);
     reply-short = λ t r l d seen h. rw (lt-ltb (length t) tableSize h);
     lay-beyond = λ t r l s m d p e q.
-        lay-beyond t (layCode n t r l s m d (narrow p) e (narrow q)) (end d (narrow p)) (end e (narrow q)) (lay-room d e _ _ (tableAt t) (end d (narrow p)) (end e (narrow q)));
+        lay-beyond t (layCode n t r l s m d (narrow p) e (narrow q)) (end d (narrow p)) (end e (narrow q)) (lay-space d e _ _ (tableAt t) (end d (narrow p)) (end e (narrow q)));
     cut-beyond = λ t r l d p.
         by-test (λ (u : List ℕ). Beyond tableSize t u) (eqb (nearCode n t r l d (narrow p)) 0) (λ h. cut-beyond t (end d (narrow p))) (λ h. stays);
     close-beyond = λ t r l d p.

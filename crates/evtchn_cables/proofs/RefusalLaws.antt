@@ -126,8 +126,8 @@ module _ (t : List ℕ) (a b : ℕ) where
       joins {s} low h put =
           ap (λ (l : List ℕ). laidBytes (record { code = 0; slot = s }) l) put ∙ ap (λ (x : ℕ). laidBytes (record { code = 0; slot = x }) (putSlot t x a b)) low ∙ sym (rw (join-is true low h))
 
-      pub no-room : {s : ℕ} {x : Laid} → s ≡ lowestFree (tableAt t) → ltb s slotCount ≡ false → x ≡ refusedLay 34 → Joins (laidBytes x t)
-      no-room low h e = ap (λ (z : Laid). laidBytes z t) e ∙ sym (rw (join-is false low h))
+      pub table-full : {s : ℕ} {x : Laid} → s ≡ lowestFree (tableAt t) → ltb s slotCount ≡ false → x ≡ refusedLay 34 → Joins (laidBytes x t)
+      table-full low h e = ap (λ (z : Laid). laidBytes z t) e ∙ sym (rw (join-is false low h))
 
 -- the whole row: d and e are the domains, P and Q the narrowed ports
 module _ (n : ℕ) (t r l s m : List ℕ) (d e P Q : ℕ) where

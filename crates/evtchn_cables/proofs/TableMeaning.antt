@@ -129,16 +129,16 @@ cut-up-to (suc k) t e i long h l = go (eqb i k) refl (cut-up-to k t e i long (om
     u : List ℕ
     u = cutUpTo k t e
 
-    room : (j : ℕ) → j < slotCount → j * 8 + 8 ≤ length u
-    room j m = rw (length-up-to k t e) (omega arith)
+    space : (j : ℕ) → j < slotCount → j * 8 + 8 ≤ length u
+    space j m = rw (length-up-to k t e) (omega arith)
 
     go : (c : Bool) → eqb i k ≡ c → slotIn u i ≡ cond (ltb i k) (cutSlot e (slotIn t i)) (slotIn t i) → slotIn (cutSlotBytes u k e) i ≡ cond (ltb i (suc k)) (cutSlot e (slotIn t i)) (slotIn t i)
     go true m before-k =
         let p = eqb-true i k m in
-        ap (λ (x : ℕ). slotIn (cutSlotBytes u k e) x) p ∙ cut-same u e k (room k (omega arith)) ∙ ap (λ (x : ℕ). cutSlot e (slotIn u x)) (sym p)
+        ap (λ (x : ℕ). slotIn (cutSlotBytes u k e) x) p ∙ cut-same u e k (space k (omega arith)) ∙ ap (λ (x : ℕ). cutSlot e (slotIn u x)) (sym p)
         ∙ ap (cutSlot e) (before-k ∙ ap (λ (c : Bool). cond c (cutSlot e (slotIn t i)) (slotIn t i)) (le-ltb i k (omega arith))) ∙ sym (rw (lt-ltb i (suc k) (omega arith)))
     go false m before-k =
-        cut-other u e k i (room k (omega arith)) (room i l) (eqb-false i k m) ∙ before-k
+        cut-other u e k i (space k (omega arith)) (space i l) (eqb-false i k m) ∙ before-k
         ∙ ap (λ (c : Bool). cond c (cutSlot e (slotIn t i)) (slotIn t i)) (next (ltb i k) refl)
       where
         next : (c : Bool) → ltb i k ≡ c → ltb i k ≡ ltb i (suc k)

@@ -121,8 +121,8 @@ fn joined(table: &mut [u8], one: u32, two: u32) -> Laid
         return refused(25);
     }
     let slot = table::lowest_free(table);
-    let room = slot < table::SLOTS;
-    if room {
+    let space = slot < table::SLOTS;
+    if space {
         table::put_slot(table, slot, one, two);
         return Laid {
             code: 0,

@@ -10,7 +10,7 @@ use lib.Dec.{eqb, leb}
 use Rattle.calls.proofs.Cases.{choose, by-test}
 use Rattle.queue.proofs.Cases.{or-none}
 use Rattle.machine.specs.declared.types.Step.{Step}
-use Rattle.cables.specs.Table.{Slot, domainLimit, end, taken, hasRoom, laidAt, cutAt}
+use Rattle.cables.specs.Table.{Slot, domainLimit, end, taken, hasSpace, laidAt, cutAt}
 use Rattle.cables.specs.Rules.{joinRefusal, layRefusal, nearRefusal}
 use Rattle.fence.specs.System.{System, Order, On, Lay, Cut, Send, Works, refusalAt, act, after, run}
 
@@ -27,17 +27,17 @@ pub record Passed (d e c k : ℕ) (t : List Slot) (a b : ℕ) : Type 0 where
 lay-passed : (d e c k : ℕ) (t : List Slot) (a b : ℕ) → layRefusal d e c k t a b ≡ 0 → Passed d e c k t a b
 unfolding layRefusal joinRefusal
 lay-passed d e c k t a b =
-    go (leb domainLimit d || leb domainLimit e) (eqb d e) (eqb c 0) (eqb k 0) (taken t a || taken t b) (hasRoom t) refl refl refl refl refl
+    go (leb domainLimit d || leb domainLimit e) (eqb d e) (eqb c 0) (eqb k 0) (taken t a || taken t b) (hasSpace t) refl refl refl refl refl
   where
-    go : (many one x y some room : Bool) → (leb domainLimit d || leb domainLimit e) ≡ many → eqb d e ≡ one → eqb c 0 ≡ x → eqb k 0 ≡ y →
-        (taken t a || taken t b) ≡ some → cond many 23 (cond one 24 (cond (not x) c (cond (not y) k (cond some 25 (cond room 0 34))))) ≡ 0 →
+    go : (many one x y some space : Bool) → (leb domainLimit d || leb domainLimit e) ≡ many → eqb d e ≡ one → eqb c 0 ≡ x → eqb k 0 ≡ y →
+        (taken t a || taken t b) ≡ some → cond many 23 (cond one 24 (cond (not x) c (cond (not y) k (cond some 25 (cond space 0 34))))) ≡ 0 →
         Passed d e c k t a b
-    go true one x y some room f g i j l h = absurd (omega arith)
-    go false true x y some room f g i j l h = absurd (omega arith)
-    go false false false y some room f g i j l h = absurd (eqb-false c 0 i h)
-    go false false true false some room f g i j l h = absurd (eqb-false k 0 j h)
-    go false false true true true room f g i j l h = absurd (omega arith)
-    go false false true true false room f g i j l h =
+    go true one x y some space f g i j l h = absurd (omega arith)
+    go false true x y some space f g i j l h = absurd (omega arith)
+    go false false false y some space f g i j l h = absurd (eqb-false c 0 i h)
+    go false false true false some space f g i j l h = absurd (eqb-false k 0 j h)
+    go false false true true true space f g i j l h = absurd (omega arith)
+    go false false true true false space f g i j l h =
         let few = or-none (leb domainLimit d) (leb domainLimit e) f in
         let free = or-none (taken t a) (taken t b) l in
         record {

@@ -1,5 +1,5 @@
 -- `evtchn_cables::joining::joined` meets its contract. Assumes nothing.
-use Rattle.evtchn_cables.proofs.RefusalLaws.{near-taken, far-taken, joins, no-room}
+use Rattle.evtchn_cables.proofs.RefusalLaws.{near-taken, far-taken, joins, table-full}
 use borrow.Author.Needs.{needs}
 use Rattle.evtchn_cables.proofs.joining.joined.Statement.{statement}
 use Rattle.evtchn_cables.proofs.joining.joined.Tie as tie
@@ -47,7 +47,7 @@ same-length-4 : tie.Need-same-length-4
 same-length-4 c = search needs
 
 returns-4 : tie.Need-returns-4
-returns-4 c = no-room _ _ _ (c .before .before .before .before .before .before .before .before .lowest-with .ensures) (c .before .before .before .before .before .before .before .if1 .left) (c .before .before .before .before .before .lowest-with2 .ensures) (c .before .before .before .before .if2 .left) (c .before .before .lowest-free .ensures) (c .before .if3 .left) (c .refused3 .ensures)
+returns-4 c = table-full _ _ _ (c .before .before .before .before .before .before .before .before .lowest-with .ensures) (c .before .before .before .before .before .before .before .if1 .left) (c .before .before .before .before .before .lowest-with2 .ensures) (c .before .before .before .before .if2 .left) (c .before .before .lowest-free .ensures) (c .before .if3 .left) (c .refused3 .ensures)
 
 pub joined-spec : {M : Type 1} → statement M
 joined-spec =
