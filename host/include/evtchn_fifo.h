@@ -23,7 +23,10 @@
  * linked only where it is used.
  *
  * Locks. A domain's record and its ledger belong to one lock, held from a call's start to its answer; a second call meanwhile
- * is refused (15). A guest's record belongs to its VCPU. evtchn_fifo_mask needs no lock.
+ * is refused (15). A guest's record belongs to its VCPU: service and clear_mask, their replies and tell are made by one VCPU at a time.
+ * A clear_mask may begin while a service is under way. Till its answer the guest's replies are the clear_mask's; the service stands where
+ * it was, and goes on after it. evtchn_fifo_mask needs no lock and no record.
+ *
  * Buffers of one call must not overlap. They may have any alignment, and may be NULL where their length is 0. A record that begins at a
  * multiple of 64 bytes lies in two cache lines.
  *
@@ -36,6 +39,19 @@
  * After EVTCHN_FIFO_NO_ENTRY (14) at a reply the call is still under way and its access has been made: lend a longer ledger and
  * hand back the same word. Never perform the access again: it would see its own LINKED or READY bit, and the event or its
  * upcall would be lost.
+ *
+ * BUSY is bit 28 of an event word. A raise or unmask sets it in the word of its queue's tail where its first cas was not taken and the
+ * word is still LINKED, and clears it before it ends: till then the guest does not clear MASKED of that port, and clear_mask keeps to it.
+ *
+ * To clear MASKED a guest calls clear_mask first. 0: MASKED is clear, and the hypervisor was not needed. 35: it calls unmask, which clears
+ * MASKED under the domain's lock and links the port if it is pending.
+ * Linux's driver repeats its cas until it is taken, and so waits while the word is BUSY; it calls unmask only where the port is PENDING.
+ * Here there is one cas, and unmask is called where the port is PENDING or BUSY or the cas was not taken: unmask waits for the lock.
+ * Xen's unmask takes no lock of the queue: a guest that is written for Xen as well waits while the word is BUSY before it calls unmask.
+ *
+ * After EVTCHN_FIFO_LINK_ABANDONED (2) the host goes on and needs to do nothing. Where the guest keeps the rules (it makes only accesses
+ * that these functions name, and is told of each page at once) it never comes. Where it comes the guest broke them: the port stays LINKED
+ * and is its queue's tail, so that what is raised on this queue later does not arrive, and the queue is that guest's own loss.
  */
 #ifndef EVTCHN_FIFO_H
 #define EVTCHN_FIFO_H
@@ -53,13 +69,14 @@ extern "C" {
  * The number of this layout: of the records, the ledger and the codes below. evtchn_fifo_layout() of the archive must
  * equal it.
  */
-#define EVTCHN_FIFO_LAYOUT 1u
+#define EVTCHN_FIFO_LAYOUT 2u
 
 /*
  * A domain's record, in words of four bytes, the lowest byte first:
  *     0 given (0, or any other number)   4 pages   8 to 71 tails of queues 0 to 15 (0: none)
- *     call under way: 72 owner (1 bind, 2 close, 3 raise, 4 unmask)   76 stage (0 the first access, 1 R2, 2 R3, 3 R4, 4 R5, 5 R6)
- *     80 port   84 queue   88 word   92 tries   96 count
+ *     call under way: 72 owner (1 bind, 2 close, 3 raise, 4 unmask)   76 stage (0 the first access, 1 R2, 2 R3, 3 R4, 4 R5, 5 R6,
+ *     6 the or that sets BUSY, 7 the and that clears it)   80 port   84 queue   88 word (R4's old one; at 7 the last seen)
+ *     92 tries (R4's cas so far)   96 count
  * No call is under way where owner or stage is none of these: a call that ends sets its owner to 0 and leaves its other words as
  * they were, which then mean nothing. All bytes 0 are a fresh record.
  */
@@ -69,10 +86,11 @@ extern "C" {
  * A guest's record, in the same words:
  *     0 to 63 heads of queues 0 to 15   64 local ready bits   68 number of words
  *     service under way: 72 stage (1 G0, 2 G1, 3 G2, 4 G3, 5 G4)   76 port   80 queue   84 count
- * No service is under way where stage is none of these: a service that ends sets its stage to 0 and leaves port, queue and count.
- * All bytes 0 are a fresh record.
+ *     clear_mask under way: 88 stage (1 read, 2 cas)   92 port   96 word (the cas's old one)   100 count
+ * No service, or no clear_mask, is under way where its stage is none of these: one that ends sets its stage to 0 and leaves its other
+ * words. All bytes 0 are a fresh record.
  */
-#define EVTCHN_FIFO_GUEST_SIZE 88u
+#define EVTCHN_FIFO_GUEST_SIZE 104u
 
 /*
  * The ledger has an entry of two bytes for each port, the lowest byte first: bits 0 to 3 priority, 4 to 7 last queue, 8 bound,
@@ -98,7 +116,7 @@ extern "C" {
 /*
  * An access: code is kind and place, index the port or queue, value the operand, old the word that a cas compares with.
  * An answer: code is a number below, index the port (19, 21) or the link bits (init_control's 0), value the count of accesses
- * that the call named, old is 0.
+ * that the call named, old is 0. Whatever words are handed back, a call names at most twelve, a service five and a clear_mask two.
  */
 typedef struct evtchn_fifo_next {
     uint32_t code, index, value, old;
@@ -111,7 +129,7 @@ typedef struct evtchn_fifo_next {
 enum evtchn_fifo_answer {
     EVTCHN_FIFO_DONE = 0,             /* 0       done; init_control's carries the link bits in index */
     EVTCHN_FIFO_UPCALL_WANTED = 1,    /* 0       done, upcall wanted */
-    EVTCHN_FIFO_LINK_ABANDONED = 2,   /* 0       done, link abandoned after four tries: the guest breaks the rules */
+    EVTCHN_FIFO_LINK_ABANDONED = 2,   /* 0       done, link abandoned after five tries: the guest breaks the rules */
     EVTCHN_FIFO_BAD_PORT = 3,         /* EINVAL* port 0, or at least 131,072 */
     EVTCHN_FIFO_NOT_BOUND = 4,        /* EINVAL  port not bound */
     EVTCHN_FIFO_ALREADY_BOUND = 5,    /* EBUSY   port already bound */
@@ -131,6 +149,7 @@ enum evtchn_fifo_answer {
     EVTCHN_FIFO_HANDED_OVER = 19,     /* -       (guest) the port in index is handed over */
     EVTCHN_FIFO_NOTHING_READY = 20,   /* -       (guest) idle */
     EVTCHN_FIFO_TAKEN = 21,           /* -       (guest) the port in index was taken, and is not handed over */
+    EVTCHN_FIFO_CALL_UNMASK = 35,     /* -       (guest) call unmask: the port is pending or BUSY, or its word changed */
     EVTCHN_FIFO_TOO_SHORT = 64        /* -       a record is too short; nothing was read or changed */
 };
 
@@ -189,14 +208,18 @@ evtchn_fifo_next evtchn_fifo_reply(uint8_t *domain, size_t domain_length, uint8_
 /* The access that the call under way waits for, once more: 16. */
 evtchn_fifo_next evtchn_fifo_due(const uint8_t *domain, size_t domain_length);
 
-/* The guest's side. A service hands over at most one event: 15. */
+/* The guest's side. A service hands over at most one event: 15, where a service or a clear_mask is under way. */
 evtchn_fifo_next evtchn_fifo_service(uint8_t *guest, size_t guest_length);
-/* The reply to the access that was named last: 16, 18. */
+/* The reply to the access that was named last, the clear_mask's while one is under way, else the service's: 16, 18. */
 evtchn_fifo_next evtchn_fifo_service_reply(uint8_t *guest, size_t guest_length, uint32_t seen);
-/* The access that the service under way waits for, once more: 16. */
+/* The access that the clear_mask under way waits for, else the service, once more: 16. */
 evtchn_fifo_next evtchn_fifo_service_due(const uint8_t *guest, size_t guest_length);
 /* 3, 6. An access comes together with its answer 0 and its count 1, and takes no reply. */
 evtchn_fifo_next evtchn_fifo_mask(uint64_t port, uint64_t words);
+/*
+ * Clears MASKED by one read and at most one cas, or answers 35: 15, where a clear_mask is under way, 3, 6 by the record's number of words.
+ */
+evtchn_fifo_next evtchn_fifo_clear_mask(uint8_t *guest, size_t guest_length, uint64_t port);
 /* The number of words becomes the larger of old and told. */
 evtchn_fifo_next evtchn_fifo_tell(uint8_t *guest, size_t guest_length, uint64_t words);
 
@@ -277,6 +300,11 @@ static inline evtchn_fifo_next evtchn_fifo_guest_service_reply(evtchn_fifo_guest
 static inline evtchn_fifo_next evtchn_fifo_guest_service_due(const evtchn_fifo_guest *guest)
 {
     return evtchn_fifo_service_due(guest->bytes, sizeof guest->bytes);
+}
+
+static inline evtchn_fifo_next evtchn_fifo_guest_clear_mask(evtchn_fifo_guest *guest, uint64_t port)
+{
+    return evtchn_fifo_clear_mask(guest->bytes, sizeof guest->bytes, port);
 }
 
 static inline evtchn_fifo_next evtchn_fifo_guest_tell(evtchn_fifo_guest *guest, uint64_t words)

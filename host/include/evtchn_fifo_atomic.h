@@ -120,6 +120,7 @@ EVTCHN_FIFO_INLINE int evtchn_fifo_perform_for_guest(const evtchn_fifo_shared *s
     switch ((uint32_t)next.access) {
     case EVTCHN_FIFO_ACCESS(READ, WORD): return evtchn_fifo_perform_event(shared, next, EVTCHN_FIFO_READ, seen);
     case EVTCHN_FIFO_ACCESS(AND, WORD): return evtchn_fifo_perform_event(shared, next, EVTCHN_FIFO_AND, seen);
+    case EVTCHN_FIFO_ACCESS(CAS, WORD): return evtchn_fifo_perform_event(shared, next, EVTCHN_FIFO_CAS, seen);
     case EVTCHN_FIFO_ACCESS(READ, HEAD): return evtchn_fifo_perform_head(shared, next, EVTCHN_FIFO_READ, seen);
     case EVTCHN_FIFO_ACCESS(SWAP, READY): return evtchn_fifo_perform_ready(shared, next, EVTCHN_FIFO_SWAP, seen);
     default: return 0;
@@ -174,7 +175,7 @@ EVTCHN_FIFO_INLINE evtchn_fifo_next evtchn_fifo_domain_run(evtchn_fifo_domain *d
     return evtchn_fifo_together(halves);
 }
 
-/* The same for a service. */
+/* The same for a service or a clear_mask. A clear_mask that began during a service comes to its answer before the service is run on. */
 EVTCHN_FIFO_INLINE evtchn_fifo_next evtchn_fifo_guest_run(evtchn_fifo_guest *guest, const evtchn_fifo_shared *shared, evtchn_fifo_next next)
 {
     evtchn_fifo_halves halves = evtchn_fifo_apart(next);

@@ -12,6 +12,7 @@
  *     accesses  1                                     the header, once, before all others
  *     X  call    init_control  0  1         0         a call: side, call, name; then of init_control VCPU, frame and offset,
  *     X  call    raise         5  -         -             of the others port, argument (a priority, expand_array's frame) and a dash
+ *     G  call    clear_mask    5  -         -             (the guest's are service, mask and clear_mask)
  *     X  or      w5            -  80000000  00000000  an access: side, kind, place, old word, operand, word seen
  *     X  answer  1             -  -         -         an answer: side, answer, number, port (of 19 and 21), two dashes
  *
@@ -141,6 +142,7 @@ static inline size_t evtchn_fifo_line_raise(char *line, uint64_t port) { return 
 static inline size_t evtchn_fifo_line_unmask(char *line, uint64_t port) { return evtchn_fifo_line_of_port(line, "X\tcall\tunmask\t", port); }
 static inline size_t evtchn_fifo_line_service(char *line) { return evtchn_fifo_line_text(line, 0, "G\tcall\tservice\t-\t-\t-\n"); }
 static inline size_t evtchn_fifo_line_mask(char *line, uint64_t port) { return evtchn_fifo_line_of_port(line, "G\tcall\tmask\t", port); }
+static inline size_t evtchn_fifo_line_clear_mask(char *line, uint64_t port) { return evtchn_fifo_line_of_port(line, "G\tcall\tclear_mask\t", port); }
 
 /* An access of a side (X or G) with the word seen, which a store has none of; 0 and no line where next is no access. */
 static inline size_t evtchn_fifo_line_access(char *line, char side, evtchn_fifo_next next, uint32_t seen)
@@ -322,6 +324,18 @@ static inline evtchn_fifo_next evtchn_fifo_trace_service(evtchn_fifo_trace *trac
     return next;
 }
 
+/* Its accesses are the guest's, as a service's are: evtchn_fifo_trace_guest_run brings it to its answer. */
+static inline evtchn_fifo_next evtchn_fifo_trace_clear_mask(evtchn_fifo_trace *trace, evtchn_fifo_guest *guest, uint64_t port)
+{
+    evtchn_fifo_next next;
+    evtchn_fifo_trace_lock(trace);
+    next = evtchn_fifo_guest_clear_mask(guest, port);
+    if (trace != NULL)
+        evtchn_fifo_trace_started(trace, EVTCHN_FIFO_TRACE_GUEST, evtchn_fifo_line_clear_mask(trace->line, port), next);
+    evtchn_fifo_trace_unlock(trace);
+    return next;
+}
+
 /* ---- a mask, whole ---- */
 
 /* The line of a mask that is refused, or of one whose access was made, with that access's. */
@@ -360,7 +374,7 @@ static inline evtchn_fifo_next evtchn_fifo_trace_reply(evtchn_fifo_trace *trace,
     return next;
 }
 
-/* The same for a service. */
+/* The same for a service or a clear_mask. */
 static inline evtchn_fifo_next evtchn_fifo_trace_service_reply(evtchn_fifo_trace *trace, evtchn_fifo_guest *guest, evtchn_fifo_next access, uint32_t seen)
 {
     evtchn_fifo_next next = evtchn_fifo_guest_service_reply(guest, seen);
@@ -388,7 +402,7 @@ static inline int evtchn_fifo_trace_domain_step(evtchn_fifo_trace *trace, evtchn
     return performed;
 }
 
-/* The same for a service. */
+/* The same for a service or a clear_mask. */
 static inline int evtchn_fifo_trace_guest_step(evtchn_fifo_trace *trace, evtchn_fifo_guest *guest, const evtchn_fifo_shared *shared,
                                                evtchn_fifo_next *next, uint32_t *seen)
 {

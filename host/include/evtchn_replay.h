@@ -51,14 +51,17 @@ extern "C" {
  * The most stack that a call of either archive needs, return addresses with it. The archive for user space may write to the red zone
  * below that.
  */
-#define EVTCHN_REPLAY_STACK 2240u
+#define EVTCHN_REPLAY_STACK 2224u
 
 /* ---- what a replay comes to ---- */
 
 /*
  * Lines count from 1, the header is the first. On one line 22 comes before a difference; a last line without its newline is 22. Where a
- * header, an answer or a mask's access is still due at the end, the line after the last differs. A call that is under way at the end is
- * no difference.
+ * header, an answer or a mask's access is still due at the end, the line after the last differs. A call, a service or a clear_mask that is
+ * under way at the end is no difference. While a service and a clear_mask are both under way, the guest's accesses are the clear_mask's.
+ *
+ * Every log is played by the rules of this library's layout. One that a library of layout 1 wrote differs where a first cas was not taken
+ * and its word kept LINKED: there it has a second cas, and the or that sets BUSY is due.
  */
 enum evtchn_replay_kind {
     EVTCHN_REPLAY_AGREES = 0,           /* all lines agree */
@@ -94,11 +97,11 @@ typedef struct evtchn_replay_position {
  */
 
 /* The start of a replay, at which the header is due: all that is lent is made fresh, whatever it held. */
-evtchn_replay_position evtchn_replay_start(uint8_t domain[100], uint8_t *ledger, size_t ledger_length, uint8_t guest[88],
+evtchn_replay_position evtchn_replay_start(uint8_t domain[100], uint8_t *ledger, size_t ledger_length, uint8_t guest[104],
                                            uint32_t *words, size_t words_length, uint32_t block[18], uint8_t due[64]);
 /* The position after a piece of the log. A replay that has stopped takes no more: position and buffers stay. */
 evtchn_replay_position evtchn_replay_feed(evtchn_replay_position position, uint8_t domain[100], uint8_t *ledger, size_t ledger_length,
-                                          uint8_t guest[88], uint32_t *words, size_t words_length, uint32_t block[18],
+                                          uint8_t guest[104], uint32_t *words, size_t words_length, uint32_t block[18],
                                           uint8_t line[64], uint8_t due[64], const uint8_t *text, size_t text_length);
 /* The report, if the log ends here. */
 evtchn_replay_result evtchn_replay_report(evtchn_replay_position position);

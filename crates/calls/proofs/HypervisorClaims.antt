@@ -153,4 +153,4 @@ module _ (n : ℕ) (d : Domain) where
       (sym (same-count (f .1)) ∙ (k .ended (f .0) ∙ simp (busy, f .0)), λ u. absurd (false≢true (sym (ap not (f .0)) ∙ u)))
 
 pub counts-calls : (n : ℕ) → Counts (hypervisorSide n)
-counts-calls n = counts (hypervisorSide n) (record { accesses = λ d act. accesses-kind n d (kind n d act); answers = λ d act. answers-kind n d (kind n d act) })
+counts-calls n = counts (hypervisorSide n) (record { accesses = λ d act x o. accesses-kind n d (kind n d act) x; answers = λ d act a k o. answers-kind n d (kind n d act) a k; others = λ d act o. absurd (true≢false o) })

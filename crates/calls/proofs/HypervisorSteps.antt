@@ -20,13 +20,13 @@ use Rattle.calls.specs.declared.types.Answer.the-variants.{Done, UpcallW
 use Rattle.calls.specs.declared.types.Owner.{Owner}
 use Rattle.calls.specs.declared.types.Owner.the-variants as owner
 use Rattle.calls.specs.declared.types.Stage.{Stage}
-use Rattle.calls.specs.declared.types.Stage.the-variants.{First, R2, R3, R4, R5, R6}
+use Rattle.calls.specs.declared.types.Stage.the-variants.{First, R2, R3, R4, SetBusy, ClearBusy, R5, R6}
 use Rattle.calls.specs.declared.types.Call.{Call}
 use Rattle.calls.specs.declared.hypervisor.stage.View.{View}
 use Rattle.calls.specs.declared.hypervisor.stage.Move.{Move}
 use Rattle.calls.specs.Answers.{codeOf}
 use Rattle.calls.specs.Records.{oneMore, isFree}
-use Rattle.calls.specs.Hypervisor.{goesOn, ends, endsTailed, named, replyR1, replyU1, replyBind, replyClose, replyFirstOf, replyFirst, staleQueue, afterR2, replyR2, triesCas, replyR4, replyR5, replyR6, stagedAt, staged}
+use Rattle.calls.specs.Hypervisor.{goesOn, ends, endsTailed, named, replyR1, replyU1, replyBind, replyClose, replyFirstOf, replyFirst, staleQueue, afterR2, replyR2, replyR3, afterFirstCas, afterLaterCas, replyR4, replySetBusy, replyClearBusy, replyR5, replyR6, stagedAt, staged}
 use Rattle.calls.specs.Claims.{isRefusal, tailsChanged}
 use Rattle.calls.proofs.Cases.{choose}
 
@@ -105,18 +105,22 @@ module _ (c : Call) (e seen : ℕ) (busy : isFree (c .owner) ≡ false) where
       going = choose Goes (eqb t 0) (refl, refl, refl) (choose Goes (eqb t (c .port .0)) (refl, refl, refl) (refl, refl, refl))
 
   kept-R4 : Kept R4 c e (replyR4 c e seen)
-  unfolding replyR4 triesCas codeOf
+  unfolding replyR4 afterFirstCas afterLaterCas codeOf
   kept-R4 =
       choose (Kept R4 c e) (casTaken seen (c .word)) (kept-tailed R4 c e Done refl (λ tails. refl))
+      (choose (Kept R4 c e) (leb (c .tries) 1)
+      (choose (Kept R4 c e) (not (has Linked seen)) (kept-on R4 c e busy _ refl refl refl) (kept-on R4 c e busy _ refl refl refl))
       (choose (Kept R4 c e) (not (has Linked seen)) (kept-on R4 c e busy _ refl refl refl)
-      (choose (Kept R4 c e) (leb 4 (c .tries)) (kept-tailed R4 c e LinkAbandoned refl (λ tails. refl)) (kept-on R4 c e busy _ refl refl refl)))
+      (choose (Kept R4 c e) (leb 5 (c .tries)) (kept-on R4 c e busy _ refl refl refl) (kept-on R4 c e busy _ refl refl refl))))
 
   kept-at : (s : Stage) (v : View) → Kept s c e (stagedAt s c e v seen)
-  unfolding replyFirst triesCas replyR5 replyR6 codeOf isFree
+  unfolding replyFirst replyR3 replySetBusy replyClearBusy replyR5 replyR6 codeOf isFree
   kept-at First v = kept-first (c .owner) refl
   kept-at R2 v = kept-R2 v
   kept-at R3 v = choose (Kept R3 c e) (not (has Linked seen)) (kept-on R3 c e busy _ refl refl refl) (kept-on R3 c e busy _ refl refl refl)
   kept-at R4 v = kept-R4
+  kept-at SetBusy v = choose (Kept SetBusy c e) (not (has Linked seen)) (kept-on SetBusy c e busy _ refl refl refl) (kept-on SetBusy c e busy _ refl refl refl)
+  kept-at ClearBusy v = choose (Kept ClearBusy c e) (has Linked (c .word)) (kept-tailed ClearBusy c e LinkAbandoned refl (λ tails. refl)) (kept-on ClearBusy c e busy _ refl refl refl)
   kept-at R5 v = record { port = λ f. refl; going = λ f. refl; ended = λ f. absurd (true≢false (sym f ∙ busy)); refused = λ f. absurd (false≢true f); tail = inr (λ tails. refl) }
   kept-at R6 v = choose (Kept R6 c e) (isReady (c .queue .0) seen) (kept-ends R6 c e e Done refl) (kept-ends R6 c e e UpcallWanted refl)
 

@@ -1,4 +1,4 @@
--- What holds of all calls and replies of Hypervisor and Guest: the access named is the one that the record waits for, refusals
+-- What holds of all calls and replies of Hypervisor, Guest and ClearMask: the access named is the one that the record waits for, refusals
 -- change nothing, little else changes, and counts are right. The proofs are in proofs/. n is the number of link bits.
 -- Assumes nothing.
 use Prim.Native.Nat.{ℕ, _+_, _%_, min}
@@ -21,16 +21,17 @@ use Rattle.calls.specs.declared.types.Masking.{Masking}
 use Rattle.calls.specs.declared.types.Masking.the-variants as masking
 use Rattle.calls.specs.declared.types.Owner.the-variants as owner
 use Rattle.calls.specs.declared.types.Stage.{Stage}
-use Rattle.calls.specs.declared.types.Stage.the-variants.{First, R2, R3, R4, R5, R6}
+use Rattle.calls.specs.declared.types.Stage.the-variants.{First, R2, R3, R4, SetBusy, ClearBusy, R5, R6}
 use Rattle.calls.specs.declared.types.Call.{Call}
 use Rattle.calls.specs.declared.types.Domain.{Domain}
 use Rattle.calls.specs.declared.types.GuestStage.the-variants.{G0, G1}
 use Rattle.calls.specs.declared.types.Guest.{Guest}
 use Rattle.calls.specs.declared.types.GuestOutcome.{GuestOutcome}
 use Rattle.calls.specs.Answers.{codeOf}
-use Rattle.calls.specs.Records.{isFree, idleCall, withCall, guestIdle}
+use Rattle.calls.specs.Records.{isFree, idleCall, withCall, guestIdle, isClearing}
 use Rattle.calls.specs.Hypervisor.{Turn, turn, answered, dueOf, initControl, expandArray, bindStart, closeStart, setPriority, raiseStart, unmaskStart, replyOf}
-use Rattle.calls.specs.Guest.{isServing, guestAnswered, guestDueOf, serviceStart, serviceReply, maskOf, tellOf}
+use Rattle.calls.specs.Guest.{isServing, guestAnswered, serviceStart, maskOf, tellOf}
+use Rattle.calls.specs.ClearMask.{clearMaskStart, guestReply, guestDueOf}
 
 -- ---- acts: what either side can be asked
 
@@ -48,7 +49,8 @@ pub data Act : Type 0 where
 
 pub data GuestAct : Type 0 where
   Serves : GuestAct
-  ServiceReplies : ℕ → GuestAct
+  ClearsMask : Port → GuestAct
+  GuestReplies : ℕ → GuestAct
   Tells : ℕ → GuestAct
 
 abbrev pub startOf : ℕ → Domain → Start → List ℕ → Turn
@@ -66,7 +68,8 @@ turnOf n d (Replies seen ledger) = replyOf n d ledger seen
 
 abbrev pub guestTurnOf : ℕ → Guest → GuestAct → GuestOutcome
 guestTurnOf n g Serves = serviceStart n g
-guestTurnOf n g (ServiceReplies seen) = serviceReply n g seen
+guestTurnOf n g (ClearsMask p) = clearMaskStart n g p
+guestTurnOf n g (GuestReplies seen) = guestReply n g seen
 guestTurnOf n g (Tells words) = tellOf g words
 
 abbrev pub lent : Act → List ℕ
@@ -79,15 +82,31 @@ isReply (Replies seen ledger) = true
 
 abbrev pub isGuestReply : GuestAct → Bool
 isGuestReply Serves = false
-isGuestReply (ServiceReplies seen) = true
+isGuestReply (ClearsMask p) = false
+isGuestReply (GuestReplies seen) = true
 isGuestReply (Tells words) = false
 
--- ---- both sides as one: what an act leaves of a record and gives, and what the record says of the call under way
+-- the guest has a service and a clear_mask under way at a time: which acts are about the one, which about the other
+abbrev pub isServices : Guest → GuestAct → Bool
+isServices g Serves = true
+isServices g (ClearsMask p) = false
+isServices g (GuestReplies seen) = not (isClearing (g .clear .stage))
+isServices g (Tells words) = true
+
+abbrev pub isClears : Guest → GuestAct → Bool
+isClears g Serves = false
+isClears g (ClearsMask p) = true
+isClears g (GuestReplies seen) = isClearing (g .clear .stage)
+isClears g (Tells words) = false
+
+-- ---- both sides as one: what an act leaves of a record and gives, and what the record says of the call under way; `own` are
+-- the acts about that call
 
 pub record Side (Record Request : Type 0) : Type 0 where
   pub after : Record → Request → Record
   pub gives : Record → Request → Next
   pub replies : Request → Bool
+  pub own : Record → Request → Bool
   pub due : Record → Next
   pub underWay : Record → Bool
   pub count : Record → ℕ
@@ -98,20 +117,36 @@ hypervisorSide n =
       after = λ d act. turnOf n d act .outcome .domain;
       gives = λ d act. turnOf n d act .outcome .next;
       replies = isReply;
+      own = λ d act. true;
       due = dueOf n;
       underWay = λ d. not (isFree (d .call .owner));
       count = λ d. d .call .count;
     }
 
+-- the guest's side, by its service
 abbrev pub guestSide : ℕ → Side Guest GuestAct
 guestSide n =
     record {
       after = λ g act. guestTurnOf n g act .guest;
       gives = λ g act. guestTurnOf n g act .next;
       replies = isGuestReply;
+      own = isServices;
       due = guestDueOf n;
       underWay = λ g. isServing (g .call .stage);
       count = λ g. g .call .count;
+    }
+
+-- and by its clear_mask
+abbrev pub clearSide : ℕ → Side Guest GuestAct
+clearSide n =
+    record {
+      after = λ g act. guestTurnOf n g act .guest;
+      gives = λ g act. guestTurnOf n g act .next;
+      replies = isGuestReply;
+      own = isClears;
+      due = guestDueOf n;
+      underWay = λ g. isClearing (g .clear .stage);
+      count = λ g. g .clear .count;
     }
 
 -- ---- due: an access that is named is the one that the record returned waits for
@@ -145,6 +180,7 @@ GuestRefusalsKeep =
 -- the service has ended, and of the heads and of the local bits only queue q's is now 0
 pub record QueueCleared (g after : Guest) (local q : ℕ) : Type 0 where
   pub call : after .call ≡ guestIdle
+  pub clear : after .clear ≡ g .clear
   pub words : after .words ≡ g .words
   pub head : getD (after .heads) q 0 ≡ 0
   pub heads : (k : ℕ) → k ≢ q → getD (after .heads) k 0 ≡ getD (g .heads) k 0
@@ -162,17 +198,19 @@ ServedQueueCleared g seen after =
 abbrev pub BadIndexEnds : Type 0
 BadIndexEnds =
     (n : ℕ) (g : Guest) (act : GuestAct) (count : ℕ) → guestTurnOf n g act .next ≡ next.Answer BadIndex count →
-    (seen : ℕ) × (act ≡ ServiceReplies seen) × ServedQueueCleared g seen (guestTurnOf n g act .guest)
+    (seen : ℕ) × (act ≡ GuestReplies seen) × ServedQueueCleared g seen (guestTurnOf n g act .guest)
 
 -- ---- frame: at most one tail changes, and at most one entry of the ledger
 
 -- the tails where a reply to the call c changes one; e is the entry of its port. R2 takes the tail of the port's last queue
--- away; R4 and R5 make the port the tail of the call's queue
+-- away; R4, R5 and an abandoned link make the port the tail of the call's queue
 abbrev pub tailsChanged : Stage → Call → ℕ → List ℕ → List ℕ
 tailsChanged First c e tails = tails
 tailsChanged R2 c e tails = set tails (lastQueue e) 0
 tailsChanged R3 c e tails = tails
 tailsChanged R4 c e tails = set tails (c .queue .0) (c .port .0)
+tailsChanged SetBusy c e tails = tails
+tailsChanged ClearBusy c e tails = set tails (c .queue .0) (c .port .0)
 tailsChanged R5 c e tails = set tails (c .queue .0) (c .port .0)
 tailsChanged R6 c e tails = tails
 
@@ -217,7 +255,7 @@ pub record Counting (Record : Type 0) : Type 0 where
   pub state : Record
   pub named : ℕ
 
--- a start that names an access has named one; a reply that does has named one more
+-- of its own acts, a start that names an access has named one; a reply that does has named one more
 abbrev pub namedAfter : Bool → Next → ℕ → ℕ
 namedAfter reply (next.Answer a count) k = k
 namedAfter false (next.Access x) k = 1
@@ -230,7 +268,7 @@ saturated k = min k 0xFFFFFFFF
 module _ {Record Request : Type 0} (side : Side Record Request) where
   abbrev pub runOne : Counting Record → Request → Counting Record
   runOne s act =
-      record { state = side .after (s .state) act; named = namedAfter (side .replies act) (side .gives (s .state) act) (s .named) }
+      record { state = side .after (s .state) act; named = cond (side .own (s .state) act) (namedAfter (side .replies act) (side .gives (s .state) act) (s .named)) (s .named) }
 
   abbrev pub run : Counting Record → List Request → Counting Record
   run s [] = s
@@ -240,10 +278,11 @@ module _ {Record Request : Type 0} (side : Side Record Request) where
   abbrev pub endsCall : Record → Request → Bool
   endsCall r act = side .underWay r && not (side .underWay (side .after r act))
 
-  -- the call under way has counted the accesses named, and an answer that ends it gives that count; any other answer gives 0
+  -- the call under way has counted the accesses named, and an answer that ends it gives that count; any other answer to its own acts
+  -- gives 0
   pub record Counted (s : Counting Record) : Type 0 where
     pub kept : side .underWay (s .state) ≡ true → side .count (s .state) ≡ saturated (s .named)
-    pub given : (act : Request) (a : Answer) (count : ℕ) → side .gives (s .state) act ≡ next.Answer a count → count ≡ cond (endsCall (s .state) act) (saturated (s .named)) 0
+    pub given : (act : Request) (a : Answer) (count : ℕ) → side .own (s .state) act ≡ true → side .gives (s .state) act ≡ next.Answer a count → count ≡ cond (endsCall (s .state) act) (saturated (s .named)) 0
 
   -- from any record with no call under way, after any acts
   abbrev pub Counts : Type 0

@@ -1,5 +1,6 @@
 -- The hypervisor's side of document 01: the refusals of each call in their order, the steps R1 to R6 and U1, and what each
--- call and reply gives for any record, ledger and word seen. n is the number of link bits.
+-- call and reply gives for any record, ledger and word seen. R4 tries as document 02 has it (T-05), with BUSY. n is the number
+-- of link bits.
 -- Assumes nothing.
 use Prim.Native.Nat.{ℕ, _+_, _%_}
 use mathlib.Core.Bool.{Bool, true, cond, not, _&&_}
@@ -9,9 +10,9 @@ use lib.Dec.{eqb, ltb, leb}
 use Rattle.word.specs.declared.Port.{Port}
 use Rattle.word.specs.declared.Queue.{Queue}
 use Rattle.word.specs.declared.Priority.{Priority}
-use Rattle.word.specs.declared.Flag.the-variants.{Pending, Masked, Linked}
+use Rattle.word.specs.declared.Flag.the-variants.{Pending, Masked, Linked, Busy}
 use Rattle.word.specs.Word.{has, mask, allBut, withLink, portAt, queueAt}
-use Rattle.word.specs.Effect.{casTaken}
+use Rattle.word.specs.Effect.{afterOr, afterAnd, casTaken}
 use Rattle.word.specs.Ready.{readyMask, isReady}
 use Rattle.word.specs.Entry.{priority, lastQueue, bound, everLinked, withPriority, boundEntry, closedEntry, linkedEntry}
 use Rattle.calls.specs.declared.types.Place.the-variants.{Word, Ready, Head}
@@ -24,7 +25,7 @@ use Rattle.calls.specs.declared.types.Next.the-variants as next
 use Rattle.calls.specs.declared.types.Owner.{Owner}
 use Rattle.calls.specs.declared.types.Owner.the-variants as owner
 use Rattle.calls.specs.declared.types.Stage.{Stage}
-use Rattle.calls.specs.declared.types.Stage.the-variants.{First, R2, R3, R4, R5, R6}
+use Rattle.calls.specs.declared.types.Stage.the-variants.{First, R2, R3, R4, SetBusy, ClearBusy, R5, R6}
 use Rattle.calls.specs.declared.types.Call.{Call}
 use Rattle.calls.specs.declared.types.Domain.{Domain}
 use Rattle.calls.specs.declared.types.Outcome.{Outcome}
@@ -203,15 +204,44 @@ replyR2 c e v seen =
       count = 0;
     }
 
--- R3 and R4: a word seen without LINKED, R5; else a cas with it, of which there are at most four
-unfoldable pub triesCas : Call → ℕ → ℕ → ℕ → Move
-triesCas c e tries seen =
-    cond (not (has Linked seen)) (goesOn e (named c R5 (c .queue)))
-    (cond (leb 4 tries) (endsTailed e c LinkAbandoned)
-    (goesOn e record { owner = c .owner; stage = R4; port = c .port; queue = c .queue; word = seen; tries = tries + 1; count = oneMore (c .count) }))
+-- a cas is named that compares with the word w; `tries` counts the cas named, with this one
+abbrev pub comparing : Call → ℕ → ℕ → Call
+comparing c tries w = record { owner = c .owner; stage = R4; port = c .port; queue = c .queue; word = w; tries = tries; count = oneMore (c .count) }
+
+-- the and that clears BUSY is named; w is the latest word seen
+abbrev pub clearing : Call → ℕ → Call
+clearing c w = record { owner = c .owner; stage = ClearBusy; port = c .port; queue = c .queue; word = w; tries = 0; count = oneMore (c .count) }
+
+-- R3: a word seen without LINKED, R5; else the first cas, of that very word
+unfoldable pub replyR3 : Call → ℕ → ℕ → Move
+replyR3 c e seen = cond (not (has Linked seen)) (goesOn e (named c R5 (c .queue))) (goesOn e (comparing c 1 seen))
+
+-- the first cas not taken: a word seen without LINKED, R5; else BUSY is set
+unfoldable pub afterFirstCas : Call → ℕ → ℕ → Move
+afterFirstCas c e seen = cond (not (has Linked seen)) (goesOn e (named c R5 (c .queue))) (goesOn e (named c SetBusy (c .queue)))
+
+-- a later one not taken: a word seen without LINKED, or the fifth cas made: BUSY is cleared; else another cas, of the word seen
+unfoldable pub afterLaterCas : Call → ℕ → ℕ → Move
+afterLaterCas c e seen =
+    cond (not (has Linked seen)) (goesOn e (clearing c seen))
+    (cond (leb 5 (c .tries)) (goesOn e (clearing c seen))
+    (goesOn e (comparing c (c .tries + 1) seen)))
 
 unfoldable pub replyR4 : Call → ℕ → ℕ → Move
-replyR4 c e seen = cond (casTaken seen (c .word)) (endsTailed e c Done) (triesCas c e (c .tries) seen)
+replyR4 c e seen =
+    cond (casTaken seen (c .word)) (endsTailed e c Done)
+    (cond (leb (c .tries) 1) (afterFirstCas c e seen)
+    (afterLaterCas c e seen))
+
+-- BUSY is set: the word then standing is the one seen, with BUSY; without LINKED BUSY is cleared; else the second cas, of that word
+unfoldable pub replySetBusy : Call → ℕ → ℕ → Move
+replySetBusy c e seen =
+    cond (not (has Linked seen)) (goesOn e (clearing c seen))
+    (goesOn e (comparing c 2 (afterOr seen (mask Busy))))
+
+-- BUSY is cleared: if the latest word seen had LINKED, T[q] becomes p, answer 2; else R5
+unfoldable pub replyClearBusy : Call → ℕ → Move
+replyClearBusy c e = cond (has Linked (c .word)) (endsTailed e c LinkAbandoned) (goesOn e (named c R5 (c .queue)))
 
 -- R5: T[q] becomes p, and R6
 unfoldable pub replyR5 : Call → ℕ → Move
@@ -224,8 +254,10 @@ replyR6 c e seen = cond (isReady (c .queue .0) seen) (ends e Done (c .count)) (e
 abbrev pub stagedAt : Stage → Call → ℕ → View → ℕ → Move
 stagedAt First c e v seen = replyFirst c e seen
 stagedAt R2 c e v seen = replyR2 c e v seen
-stagedAt R3 c e v seen = triesCas c e 0 seen
+stagedAt R3 c e v seen = replyR3 c e seen
 stagedAt R4 c e v seen = replyR4 c e seen
+stagedAt SetBusy c e v seen = replySetBusy c e seen
+stagedAt ClearBusy c e v seen = replyClearBusy c e
 stagedAt R5 c e v seen = replyR5 c e
 stagedAt R6 c e v seen = replyR6 c e seen
 
@@ -241,11 +273,17 @@ dueFirst owner.Close p = And (Word p) (allBut Pending)
 dueFirst owner.Raise p = Or (Word p) (mask Pending)
 dueFirst owner.Unmask p = And (Word p) (allBut Masked)
 
+-- the new word of R4's cas: LINK p, and BUSY clear
+abbrev pub linkingWord : ℕ → ℕ → ℕ → ℕ
+linkingWord n w p = withLink n (afterAnd w (allBut Busy)) p
+
 abbrev pub dueAt : ℕ → Stage → Call → ℕ → Access
 dueAt n First c tail = dueFirst (c .owner) (c .port)
 dueAt n R2 c tail = Or (Word (c .port)) (mask Linked)
 dueAt n R3 c tail = Read (Word (portAt tail))
-dueAt n R4 c tail = Cas (Word (portAt tail)) (c .word) (withLink n (c .word) (c .port .0))
+dueAt n R4 c tail = Cas (Word (portAt tail)) (c .word) (linkingWord n (c .word) (c .port .0))
+dueAt n SetBusy c tail = Or (Word (portAt tail)) (mask Busy)
+dueAt n ClearBusy c tail = And (Word (portAt tail)) (allBut Busy)
 dueAt n R5 c tail = Store (Head (c .queue)) (c .port .0)
 dueAt n R6 c tail = Or Ready (readyMask (c .queue .0))
 

@@ -17,6 +17,9 @@ use Rattle.calls.specs.declared.types.Domain.{Domain}
 use Rattle.calls.specs.declared.types.GuestStage.{GuestStage}
 use Rattle.calls.specs.declared.types.GuestStage.the-variants as guestStage
 use Rattle.calls.specs.declared.types.GuestCall.{GuestCall}
+use Rattle.calls.specs.declared.types.ClearStage.{ClearStage}
+use Rattle.calls.specs.declared.types.ClearStage.the-variants as clearStage
+use Rattle.calls.specs.declared.types.ClearCall.{ClearCall}
 use Rattle.calls.specs.declared.types.Guest.{Guest}
 use Rattle.calls.specs.declared.records.Lookup.{Lookup}
 use Rattle.calls.specs.declared.records.Lookup.the-variants.{Found, Missing}
@@ -56,6 +59,8 @@ closingBy owner.Close stage.First p = p
 closingBy owner.Close stage.R2 p = 0
 closingBy owner.Close stage.R3 p = 0
 closingBy owner.Close stage.R4 p = 0
+closingBy owner.Close stage.SetBusy p = 0
+closingBy owner.Close stage.ClearBusy p = 0
 closingBy owner.Close stage.R5 p = 0
 closingBy owner.Close stage.R6 p = 0
 closingBy owner.None s p = 0
@@ -84,5 +89,17 @@ guestCallAt s p q count = record { stage = s; port = p; queue = q; count = count
 abbrev pub guestIdle : GuestCall
 guestIdle = guestCallAt guestStage.None (portAt 0) (queueAt 0) 0
 
+-- a clear_mask is under way
+unfoldable pub isClearing : ClearStage → Bool
+isClearing clearStage.None = false
+isClearing clearStage.Read = true
+isClearing clearStage.Cas = true
+
+abbrev pub clearAt : ClearStage → Port → ℕ → ℕ → ClearCall
+clearAt s p w count = record { stage = s; port = p; word = w; count = count }
+
+abbrev pub clearIdle : ClearCall
+clearIdle = clearAt clearStage.None (portAt 0) 0 0
+
 abbrev pub freshGuest : Guest
-freshGuest = record { heads = replicate 16 0; ready = 0; words = 0; call = guestIdle }
+freshGuest = record { heads = replicate 16 0; ready = 0; words = 0; call = guestIdle; clear = clearIdle }

@@ -54,5 +54,6 @@ pub fn code_of(answer: Answer) -> Code
             number: 21,
             value: port.0,
         },
+        Answer::CallUnmask => plain(35),
     }
 }

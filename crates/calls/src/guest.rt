@@ -1,7 +1,7 @@
-// The guest's calls: service with its reply, mask, tell.
+// The guest's service with its reply, mask, tell.
 ghost use mathlib.Core.Path.{_≡_};
 ghost use Rattle.word.specs.Word.{linkBits};
-ghost use Rattle.calls.specs.Guest.{isServing, guestGoesOn, guestEnds, guestNamed, badIndex, takesIndex, replyG0, replyG2, replyG3, replyG4, guestStaged, serviceQueue, guestDue, guestMoved, guestNext, guestDueOf, serviceStart, serviceReply, maskOf, tellOf};
+ghost use Rattle.calls.specs.Guest.{isServing, guestGoesOn, guestEnds, guestNamed, badIndex, takesIndex, replyG0, replyG2, replyG3, replyG4, guestStaged, serviceQueue, guestDue, guestMoved, guestNext, serviceStart, serviceReply, maskOf, tellOf};
 use crate::records;
 use crate::types::Access;
 use crate::types::Answer;
@@ -248,13 +248,6 @@ pub fn guest_next(guest: Guest, answer: Answer, count: u32) -> Next
     Next::Access(access)
 }
 
-// The access that a guest's service under way waits for; 16 where none is.
-pub fn service_due(guest: Guest) -> Next
-    ensures { λ r. ⌜ r ≡ guestDueOf linkBits guest ⌝ }
-{
-    guest_next(guest, Answer::NoCall, 0)
-}
-
 // The guest after a stage.
 pub fn guest_moved(guest: Guest, step: GuestMove) -> Guest
     ensures { λ r. ⌜ r ≡ guestMoved guest step ⌝ }
@@ -262,19 +255,30 @@ pub fn guest_moved(guest: Guest, step: GuestMove) -> Guest
     let heads = guest.heads;
     let queue = step.queue;
     let call = step.call;
+    let clear = guest.clear;
     let changed = records::with_queue(heads, queue, step.head);
     Guest {
         heads: changed,
         ready: step.ready,
         words: guest.words,
         call: call,
+        clear: clear,
     }
 }
 
-// service: 15; else G0.
+// service: 15, by a clear_mask under way or a service; else G0.
 pub fn service(guest: Guest) -> GuestOutcome
     ensures { λ r. ⌜ r ≡ serviceStart linkBits guest ⌝ }
 {
+    let clear = guest.clear;
+    let clear_stage = clear.stage;
+    let clearing = records::is_clearing(clear_stage);
+    if clearing {
+        return GuestOutcome {
+            guest: guest,
+            next: Next::Answer(Answer::CallUnderWay, 0),
+        };
+    }
     let call = guest.call;
     let stage = call.stage;
     let busy = is_serving(stage);
@@ -291,6 +295,7 @@ pub fn service(guest: Guest) -> GuestOutcome
         ready: guest.ready,
         words: guest.words,
         call: first,
+        clear: clear,
     };
     let next = guest_next(begun, Answer::Done, 0);
     GuestOutcome {
@@ -299,7 +304,7 @@ pub fn service(guest: Guest) -> GuestOutcome
     }
 }
 
-// The reply to the access that was named last: 16, 18.
+// The service's reply to the access that was named last: 16, 18.
 pub fn service_reply(guest: Guest, seen: u32) -> GuestOutcome
     ensures { λ r. ⌜ r ≡ serviceReply linkBits guest seen ⌝ }
 {
@@ -349,11 +354,13 @@ pub fn tell(guest: Guest, words: u32) -> GuestOutcome
     if more {
         let heads = guest.heads;
         let call = guest.call;
+        let clear = guest.clear;
         let told = Guest {
             heads: heads,
             ready: guest.ready,
             words: words,
             call: call,
+            clear: clear,
         };
         return GuestOutcome {
             guest: told,

@@ -1,11 +1,12 @@
 // Fresh records, the extent of the array, and the rules on counts, tails and heads that every stage shares.
 ghost use mathlib.Core.Path.{_≡_};
-ghost use Prim.Native.Nat.{ℕ};
 ghost use lib.ListN.{length, getD, set, replicate};
-ghost use Rattle.word.specs.Word.{linkBits, portAt, queueAt};
+ghost use Rattle.word.specs.Word.{linkBits};
 ghost use Rattle.word.specs.Entry.{freshEntry};
-ghost use Rattle.calls.specs.Records.{oneMore, portLimit, pageLimit, isPort, inArray, entryAt, isFree, callAt, idleCall, guestCallAt, guestIdle, freshDomain, freshGuest, withCall};
+ghost use Rattle.calls.specs.Records.{oneMore, pageLimit, isPort, inArray, entryAt, isFree, callAt, idleCall, guestCallAt, guestIdle, isClearing, clearAt, clearIdle, freshDomain, freshGuest, withCall};
 use crate::types::Call;
+use crate::types::ClearCall;
+use crate::types::ClearStage;
 use crate::types::Domain;
 use crate::types::Guest;
 use crate::types::GuestCall;
@@ -188,14 +189,45 @@ pub fn guest_idle() -> GuestCall
     guest_call_at(GuestStage::None, Port(0), Queue(0), 0)
 }
 
+// Whether a clear_mask is under way.
+pub fn is_clearing(stage: ClearStage) -> bool
+    ensures { λ r. ⌜ r ≡ isClearing stage ⌝ }
+{
+    match stage {
+        ClearStage::None => false,
+        ClearStage::Read => true,
+        ClearStage::Cas => true,
+    }
+}
+
+pub fn clear_at(stage: ClearStage, port: Port, word: u32, count: u32) -> ClearCall
+    ensures { λ r. ⌜ r ≡ clearAt stage port word count ⌝ }
+{
+    ClearCall {
+        stage: stage,
+        port: port,
+        word: word,
+        count: count,
+    }
+}
+
+// No clear_mask under way.
+pub fn clear_idle() -> ClearCall
+    ensures { λ r. ⌜ r ≡ clearIdle ⌝ }
+{
+    clear_at(ClearStage::None, Port(0), 0, 0)
+}
+
 pub fn fresh_guest() -> Guest
     ensures { λ r. ⌜ r ≡ freshGuest ⌝ }
 {
     let call = guest_idle();
+    let clear = clear_idle();
     Guest {
         heads: [0; 16],
         ready: 0,
         words: 0,
         call: call,
+        clear: clear,
     }
 }

@@ -19,7 +19,7 @@ pub enum Access {
     Cas(Place, u32, u32),
 }
 
-// Document 01's numbers that a call can give. LinkBits is init_control's 0.
+// Document 01's numbers that a call can give, and document 02's 35. LinkBits is init_control's 0.
 pub enum Answer {
     Done,
     LinkBits(u32),
@@ -44,6 +44,7 @@ pub enum Answer {
     HandedOver(Port),
     NothingReady,
     Taken(Port),
+    CallUnmask,
 }
 
 // What a call or a reply comes to: the next access, or the answer with its count of accesses.
@@ -67,7 +68,8 @@ pub enum Owner {
     Unmask,
 }
 
-// The access that it waits for: the owner's first (a bind's read, a close's and, R1, U1), or one of R2 to R6.
+// The access that it waits for: the owner's first (a bind's read, a close's and, R1, U1), or one of R2 to R6, with the or that
+// sets BUSY on the tail's word after the first cas of R4, and the and that clears it.
 pub enum Stage {
     First,
     R2,
@@ -75,10 +77,13 @@ pub enum Stage {
     R4,
     R5,
     R6,
+    SetBusy,
+    ClearBusy,
 }
 
 // The hypervisor's call under way. A stage reads the fields that it needs: R3 to R6 the queue, R4 the word that its
-// cas compares with and the number of cas named so far. The count is the number of accesses named so far.
+// cas compares with and the number of cas named so far, ClearBusy the latest word seen. The count is the number of accesses named
+// so far.
 pub struct Call {
     pub owner: Owner,
     pub stage: Stage,
@@ -113,7 +118,7 @@ pub enum GuestStage {
     G4,
 }
 
-// The guest's call under way. G1 and G2 read the queue, G2 to G4 the port.
+// The guest's service under way. G1 and G2 read the queue, G2 to G4 the port.
 pub struct GuestCall {
     pub stage: GuestStage,
     pub port: Port,
@@ -121,12 +126,29 @@ pub struct GuestCall {
     pub count: u32,
 }
 
-// Document 01's guest record: a head H for each queue, local ready bits, her number of words.
+// The access that a clear_mask waits for.
+pub enum ClearStage {
+    None,
+    Read,
+    Cas,
+}
+
+// The guest's clear_mask under way. The cas compares with the word.
+pub struct ClearCall {
+    pub stage: ClearStage,
+    pub port: Port,
+    pub word: u32,
+    pub count: u32,
+}
+
+// Document 01's guest record: a head H for each queue, local ready bits, her number of words; the service and the clear_mask
+// under way.
 pub struct Guest {
     pub heads: [u32; 16],
     pub ready: u32,
     pub words: u32,
     pub call: GuestCall,
+    pub clear: ClearCall,
 }
 
 // A guest after a call or a reply, and what that comes to.

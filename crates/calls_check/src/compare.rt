@@ -23,6 +23,8 @@ fn stage_number(stage: Stage) -> u32 {
         Stage::R4 => 4,
         Stage::R5 => 5,
         Stage::R6 => 6,
+        Stage::SetBusy => 7,
+        Stage::ClearBusy => 8,
     }
 }
 

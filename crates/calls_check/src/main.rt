@@ -1,6 +1,6 @@
 // Tests of the calls against numbers worked by hand, from the script on standard input: a line for each test, then their
 // number. The names are those of the readings of document 01, A1 (refusals), A2 (counts), A3 (hypervisor), A4 (guest),
-// A5 (arbitrary records).
+// A5 (arbitrary records), and of document 02, T-05 (BUSY and clear_mask).
 mod compare;
 mod domain;
 mod expect;

@@ -54,12 +54,14 @@ fn owner(name: u64) -> Owner {
 }
 
 fn stage(name: u64) -> Stage {
-    match place(name, b"R2 R3 R4 R5 R6") {
+    match place(name, b"R2 R3 R4 SetBusy ClearBusy R5 R6") {
         1 => Stage::R2,
         2 => Stage::R3,
         3 => Stage::R4,
-        4 => Stage::R5,
-        5 => Stage::R6,
+        4 => Stage::SetBusy,
+        5 => Stage::ClearBusy,
+        6 => Stage::R5,
+        7 => Stage::R6,
         _ => Stage::First,
     }
 }

@@ -1,5 +1,5 @@
-// The commands of the script. The names of the hypervisor's calls and `service` run a whole call; after `start` they
-// start it only. A side is X or G, as in the log.
+// The commands of the script. The names of the hypervisor's calls, `service` and `clear_mask` run a whole call; after `start`
+// they start it only. A side is X or G, as in the log.
 use machine::types::GuestStart;
 use machine::types::Side;
 use machine::types::Start;
@@ -13,7 +13,7 @@ use word::Port;
 use word::Priority;
 use word::Queue;
 
-// How a step is made: with no line in the log; with all further accesses of a side's call.
+// How a step is made: with no line in the log; with all further accesses of a side's call, up to an answer.
 pub(crate) struct Manner {
     pub silent: bool,
     pub whole: bool,
@@ -61,7 +61,7 @@ fn logged(step: Step) -> Command {
     Command::Take(planned(step, false, false, Side::Hypervisor))
 }
 
-// The access that a side waits for, and all further ones of its call.
+// The access that a side waits for, and all further ones up to an answer.
 pub(crate) fn go_on(side: Side) -> Plan {
     planned(Step::Perform(side), false, true, side)
 }
@@ -85,11 +85,16 @@ fn port_call(name: u64) -> Call {
     }
 }
 
+fn of_guest(start: GuestStart) -> Call {
+    Call::Start(Step::Guest(start), Side::Guest)
+}
+
 fn any_call(name: u64) -> Call {
-    match place(name, b"init expand service") {
+    match place(name, b"init expand service clear_mask") {
         1 => of_hypervisor(Start::InitControl(small(), number(), number(), small())),
         2 => of_hypervisor(Start::ExpandArray(number(), number())),
-        3 => Call::Start(Step::Guest(GuestStart::Service), Side::Guest),
+        3 => of_guest(GuestStart::Service),
+        4 => of_guest(GuestStart::ClearMask(Port(small()))),
         _ => port_call(name),
     }
 }

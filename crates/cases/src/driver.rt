@@ -48,9 +48,9 @@ fn without_step(sides: Sides, put: Put) -> Run {
 }
 
 // The access that a whole call waits for, or else the script's next command.
-fn next(sides: Sides, manner: Manner) -> Command {
+fn next(sides: Sides, manner: Manner, answered: bool) -> Command {
     let side = manner.side;
-    if manner.whole && is_busy(sides, side) {
+    if manner.whole && !answered && is_busy(sides, side) {
         return Command::Take(command::go_on(side));
     }
     command::read()
@@ -59,7 +59,8 @@ fn next(sides: Sides, manner: Manner) -> Command {
 fn turn(run: Run, ledger: &mut [u16], words: &mut [u32], block: &mut [u32]) -> Run {
     let sides = run.sides;
     let manner = run.manner;
-    match next(sides, manner) {
+    let answer = run.answer;
+    match next(sides, manner, answer.given) {
         Command::Take(plan) => take(sides, ledger, words, block, plan),
         Command::Short(plan) => take_short(sides, words, block, plan),
         Command::Put(call) => without_step(sides, call),

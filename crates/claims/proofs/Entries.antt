@@ -62,10 +62,13 @@ reply-14 : {d : Domain} {act : Act} → Refusal d act NoEntry → isReply act �
 reply-14 (atStart h) r i = false≢true r
 reply-14 (fourteen busy l) r i = omega (arith, i busy)
 
-service-14 : {g : Guest} {act : GuestAct} {a : Answer} → guest.Refusal g act a → a ≢ NoEntry
+guest-14 : {g : Guest} {act : GuestAct} {a : Answer} → guest.Refusal g act a → a ≢ NoEntry
 unfolding codeOf
-service-14 guest.fifteen = other-answer refl refl refl
-service-14 (guest.sixteen h) = other-answer refl refl refl
+guest-14 guest.fifteen = other-answer refl refl refl
+guest-14 guest.clearFifteen = other-answer refl refl refl
+guest-14 guest.clearThree = other-answer refl refl refl
+guest-14 guest.clearSix = other-answer refl refl refl
+guest-14 (guest.sixteen none free) = other-answer refl refl refl
 
 not-7 : NoEntry ≢ StillLinked
 unfolding codeOf
@@ -81,7 +84,7 @@ replies-acted n w i (byHypervisor act access m same reply h none made) r by g =
     reply-14 (why-refused n (w .domain) act NoEntry (f .count) (f .same) refusal-14 not-7) (reply ∙ r) (rw same i)
 replies-acted n w i (byGuest act access reply h none) r by g =
     let f = guest-given access (guestTurnOf n (w .guest) act .next) h g in
-    service-14 (guest-why-refused n (w .guest) act NoEntry (f .count) (f .same) refusal-14 not-18) refl
+    guest-14 (guest-why-refused n (w .guest) act NoEntry (f .count) (f .same) refusal-14 not-18) refl
 replies-acted n w i (byMask access other reply h none) r by g = false≢true (sym reply ∙ r)
 
 pub replies-find-entries : RepliesFindEntries

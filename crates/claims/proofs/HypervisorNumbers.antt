@@ -11,12 +11,13 @@ use lib.ListN.{getD, length}
 use Rattle.word.specs.declared.Port.{Port}
 use Rattle.word.specs.declared.Queue.{Queue}
 use Rattle.word.specs.declared.Priority.{Priority}
-use Rattle.word.specs.declared.Flag.the-variants.{Pending, Masked, Linked}
-use Rattle.word.specs.Word.{has, queueAt, Width}
+use Rattle.word.specs.declared.Flag.the-variants.{Pending, Masked, Linked, Busy}
+use Rattle.word.specs.Word.{has, mask, queueAt, Width}
 use Rattle.word.specs.Effect.{casTaken}
 use Rattle.word.specs.Ready.{isReady}
 use Rattle.word.specs.Entry.{priority, bound}
 use Rattle.word.proofs.WordLaws.{mask-lt, allBut-lt, withLink-lt}
+use Rattle.word.proofs.EffectLaws.{or-lt-32, and-lt-32}
 use Rattle.word.proofs.ReadyLaws.{readyMask-lt}
 use Rattle.word.proofs.EntryLaws.{priority-lt}
 use Rattle.calls.specs.declared.types.Answer.{Answer}
@@ -24,7 +25,7 @@ use Rattle.calls.specs.declared.types.Answer.the-variants.{Done}
 use Rattle.calls.specs.declared.types.Owner.{Owner}
 use Rattle.calls.specs.declared.types.Owner.the-variants as owner
 use Rattle.calls.specs.declared.types.Stage.{Stage}
-use Rattle.calls.specs.declared.types.Stage.the-variants.{First, R2, R3, R4, R5, R6}
+use Rattle.calls.specs.declared.types.Stage.the-variants.{First, R2, R3, R4, SetBusy, ClearBusy, R5, R6}
 use Rattle.calls.specs.declared.types.Call.{Call}
 use Rattle.calls.specs.declared.types.Domain.{Domain}
 use Rattle.calls.specs.declared.types.Outcome.{Outcome}
@@ -38,7 +39,7 @@ use Rattle.calls.specs.declared.hypervisor.start.Begin.{Begin}
 use Rattle.calls.specs.declared.hypervisor.start.Begin.the-variants as begin
 use Rattle.calls.specs.Answers.{codeOf}
 use Rattle.calls.specs.Records.{pageLimit, isPort, inArray, entryAt, isFree, idleCall, withCall}
-use Rattle.calls.specs.Hypervisor.{Turn, isOffset, acceptInit, acceptExpand, entryOr14, acceptPort, firstAccess, bindEntry, closeEntry, priorityEntry, linkEntry, beginBind, beginClose, beginPriority, beginLink, goesOn, ends, endsTailed, named, replyR1, replyU1, replyBind, replyClose, replyFirstOf, replyFirst, afterR2, replyR2, triesCas, replyR4, replyR5, replyR6, stagedAt, staged, dueFirst, dueAt, due, nextOf, initControlOf, initControl, expandArrayOf, expandArray, started, bindStart, closeStart, setPriority, raiseStart, unmaskStart, viewOf, moved, replyFound, replyOf}
+use Rattle.calls.specs.Hypervisor.{Turn, isOffset, acceptInit, acceptExpand, entryOr14, acceptPort, firstAccess, bindEntry, closeEntry, priorityEntry, linkEntry, beginBind, beginClose, beginPriority, beginLink, goesOn, ends, endsTailed, named, replyR1, replyU1, replyBind, replyClose, replyFirstOf, replyFirst, afterR2, replyR2, comparing, clearing, replyR3, afterFirstCas, afterLaterCas, replyR4, replySetBusy, replyClearBusy, replyR5, replyR6, stagedAt, staged, dueFirst, dueAt, due, nextOf, initControlOf, initControl, expandArrayOf, expandArray, started, bindStart, closeStart, setPriority, raiseStart, unmaskStart, viewOf, moved, replyFound, replyOf}
 use Rattle.calls.specs.Claims.{Start, InitControl, ExpandArray, Bind, Close, Raise, Unmask, SetPriority, startOf}
 use Rattle.calls.proofs.Cases.{choose, by-test}
 use Rattle.claims.specs.Numbers.{Small, SmallAccess, SmallAnswer, SmallCall, SmallDomain}
@@ -160,19 +161,30 @@ module _ (c : Call) (i : SmallCall c) where
         on : (s : Stage) → SmallCall (named c s (queueAt (priority e)))
         on s = naming s (queueAt (priority e)) (let l = priority-lt e in omega arith)
 
+    stores : SmallMove (goesOn e (named c R5 (c .queue)))
+    stores = goes e (naming R5 (c .queue) (i .queue))
+
     module _ (h : Small seen) where
-      compares : (tries : ℕ) → SmallMove (triesCas c e tries seen)
-      unfolding triesCas codeOf
-      compares tries =
-          choose SmallMove (not (has Linked seen)) (goes e (naming R5 (c .queue) (i .queue)))
-          (choose SmallMove (leb 4 tries) (tailed e _ (answer-small refl)) (goes e (record { port = i .port; queue = i .queue; word = h })))
+      compares : (tries w : ℕ) → Small w → SmallMove (goesOn e (comparing c tries w))
+      compares tries w l = goes e (record { port = i .port; queue = i .queue; word = l })
+
+      clears : SmallMove (goesOn e (clearing c seen))
+      clears = goes e (record { port = i .port; queue = i .queue; word = h })
+
+      later-cas : SmallMove (afterLaterCas c e seen)
+      unfolding afterLaterCas
+      later-cas = choose SmallMove (not (has Linked seen)) clears (choose SmallMove (leb 5 (c .tries)) clears (compares _ seen h))
 
       steps : (s : Stage) (v : View) → SmallMove (stagedAt s c e v seen)
-      unfolding replyFirst replyR4 replyR5 replyR6 codeOf
+      unfolding replyFirst replyR3 afterFirstCas replyR4 replySetBusy replyClearBusy replyR5 replyR6 codeOf
       steps First v = first (c .owner)
       steps R2 v = links v
-      steps R3 v = compares 0
-      steps R4 v = choose SmallMove (casTaken seen (c .word)) (tailed e Done (answer-small refl)) (compares (c .tries))
+      steps R3 v = choose SmallMove (not (has Linked seen)) stores (compares 1 seen h)
+      steps R4 v =
+          choose SmallMove (casTaken seen (c .word)) (tailed e Done (answer-small refl))
+          (choose SmallMove (leb (c .tries) 1) (choose SmallMove (not (has Linked seen)) stores (goes e (naming SetBusy (c .queue) (i .queue)))) later-cas)
+      steps SetBusy v = choose SmallMove (not (has Linked seen)) clears (compares 2 _ (or-lt-32 seen (mask Busy) h (mask-lt Busy)))
+      steps ClearBusy v = choose SmallMove (has Linked (c .word)) (tailed e _ (answer-small refl)) stores
       steps R5 v = record { tail = i .port; call = naming R6 (c .queue) (i .queue); answer = answer-small refl }
       steps R6 v = choose SmallMove (isReady (c .queue .0) seen) (ended e _ _ (answer-small refl)) (ended e _ _ (answer-small refl))
 
@@ -191,7 +203,9 @@ module _ {n : ℕ} (wide : Width n) where
   due-small c i tail t First = first-small (c .owner) (c .port) (i .port)
   due-small c i tail t R2 = (i .port, mask-lt Linked)
   due-small c i tail t R3 = t
-  due-small c i tail t R4 = (t, i .word, withLink-lt wide (c .word) (c .port .0) (i .word))
+  due-small c i tail t R4 = (t, i .word, withLink-lt wide _ (c .port .0) (and-lt-32 (c .word) _ (i .word)))
+  due-small c i tail t SetBusy = (t, mask-lt Busy)
+  due-small c i tail t ClearBusy = (t, allBut-lt Busy)
   due-small c i tail t R5 = (i .queue, i .port)
   due-small c i tail t R6 = (tt, let l = readyMask-lt (c .queue .0) in omega arith)
 

@@ -1,13 +1,13 @@
--- The hypervisor's calls reach nothing outside and name at most nine accesses: the invariant on the record and on the
+-- The hypervisor's calls reach nothing outside and name at most twelve accesses: the invariant on the record and on the
 -- number of accesses named, kept by every start and reply.
 -- Assumes nothing.
-use Prim.Native.Nat.{ℕ, zero, suc, _+_, _*_, _≤_, _<_}
+use Prim.Native.Nat.{ℕ, zero, suc, _+_, _-_, _*_, _≤_, _<_, min}
 use mathlib.Core.Path.{_≡_, refl, sym, ap, subst, _∙_}
 use mathlib.Core.Bool.{Bool, true, false, cond, not, true≢false, false≢true}
 use mathlib.Core.List.{List}
 use mathlib.Core.Logic.{inl, inr, ⊎-elim, _≢_}
 use native.Mathlib.Omega.{arith}
-use borrow.Author.Tests.{eqb-true, eqb-false, leb-false, ltb-true, ltb-false}
+use borrow.Author.Tests.{eqb-true, eqb-false, leb-true, leb-false, ltb-true, ltb-false}
 use lib.ListN.{length, getD, set, replicate, length-set}
 use lib.Seq.{set-out, getD-set-same, getD-set-other}
 use lib.Dec.{eqb, leb, ltb}
@@ -27,12 +27,12 @@ use Rattle.calls.specs.declared.types.Next.the-variants as next
 use Rattle.calls.specs.declared.types.Owner.{Owner}
 use Rattle.calls.specs.declared.types.Owner.the-variants as owner
 use Rattle.calls.specs.declared.types.Stage.{Stage}
-use Rattle.calls.specs.declared.types.Stage.the-variants.{First, R2, R3, R4, R5, R6}
+use Rattle.calls.specs.declared.types.Stage.the-variants.{First, R2, R3, R4, SetBusy, ClearBusy, R5, R6}
 use Rattle.calls.specs.declared.types.Call.{Call}
 use Rattle.calls.specs.declared.types.Domain.{Domain}
 use Rattle.calls.specs.declared.hypervisor.stage.Move.{Move}
-use Rattle.calls.specs.Records.{isFree, callAt, withCall, freshDomain}
-use Rattle.calls.specs.Hypervisor.{Turn, goesOn, ends, endsTailed, named, replyR1, replyU1, replyBind, replyClose, replyFirstOf, replyFirst, staleQueue, afterR2, replyR2, triesCas, replyR4, replyR5, replyR6, stagedAt, staged, viewOf, moved, dueFirst, dueAt, due, nextOf, dueOf}
+use Rattle.calls.specs.Records.{oneMore, isFree, callAt, withCall, freshDomain}
+use Rattle.calls.specs.Hypervisor.{Turn, goesOn, ends, endsTailed, named, clearing, replyR1, replyU1, replyBind, replyClose, replyFirstOf, replyFirst, staleQueue, afterR2, replyR2, replyR3, afterFirstCas, afterLaterCas, replyR4, replySetBusy, replyClearBusy, replyR5, replyR6, stagedAt, staged, viewOf, moved, dueFirst, dueAt, due, nextOf, dueOf}
 use Rattle.calls.specs.Claims.{Act, isReply, hypervisorSide, Counting, namedAfter, runOne}
 use Rattle.calls.proofs.Cases.{choose, by-test, no-access, same-access, same-answer}
 use Rattle.calls.proofs.RecordLaws.{is-port, in-array}
@@ -45,21 +45,25 @@ use Rattle.claims.proofs.SideReach.{always, bounded}
 
 -- ---- the invariant
 
--- the most accesses that a call has named at a stage; t is its number of tries
+-- the most accesses that a call has named at a stage; t is its number of tries. From the second cas on the or is among them
 abbrev most : Stage → ℕ → ℕ
 most First t = 1
 most R2 t = 2
 most R3 t = 3
-most R4 t = 3 + t
-most R5 t = 8
-most R6 t = 9
+most R4 t = 3 + t + min 1 (t - 1)
+most SetBusy t = 5
+most ClearBusy t = 10
+most R5 t = 11
+most R6 t = 12
 
--- R3 and R4 look at the tail
+-- R3, R4, SetBusy and ClearBusy look at the tail
 abbrev TailDue : Stage → ℕ → ℕ → Type 0
 TailDue First words tail = Unit {0}
 TailDue R2 words tail = Unit {0}
 TailDue R3 words tail = PortInside words tail
 TailDue R4 words tail = PortInside words tail
+TailDue SetBusy words tail = PortInside words tail
+TailDue ClearBusy words tail = PortInside words tail
 TailDue R5 words tail = Unit {0}
 TailDue R6 words tail = Unit {0}
 
@@ -67,7 +71,7 @@ TailDue R6 words tail = Unit {0}
 record CallInside (words : ℕ) (tails : List ℕ) (c : Call) (k : ℕ) : Type 0 where
   port : PortInside words (c .port .0)
   queue : c .queue .0 < 16
-  tries : c .tries ≤ 4
+  tries : c .tries ≤ 5
   length : k ≤ most (c .stage) (c .tries)
   tail : TailDue (c .stage) words (getD tails (c .queue .0) 0)
 
@@ -152,20 +156,41 @@ module _ (words : ℕ) (tails : List ℕ) (size : length tails ≡ 16) (inside :
         (record { tail = inl refl; call = λ f. chooses h _ (stale-other e (c .port) former) })
 
     module _ (queue : c .queue .0 < 16) where
-      compares : (tries : ℕ) → tries ≤ 4 → k ≤ 3 + tries → PortInside words (getD tails (c .queue .0) 0) → Moves (triesCas c e tries seen)
-      unfolding triesCas
-      compares tries t h tail =
-          choose Moves (not (has Linked seen)) (goes e (record { port = port; queue = queue; tries = omega arith; length = omega arith; tail = tt }))
-          (by-test Moves (leb 4 tries) (λ f. tailed e LinkAbandoned)
-          (λ f. goes e (record { port = port; queue = queue; tries = omega (arith, leb-false 4 tries f); length = omega arith; tail = tail })))
+      -- the call goes on at stage s on its queue
+      names : (s : Stage) (w t : ℕ) → t ≤ 5 → k + 1 ≤ most s t → TailDue s words (getD tails (c .queue .0) 0) →
+          Moves (goesOn e (record { owner = c .owner; stage = s; port = c .port; queue = c .queue; word = w; tries = t; count = oneMore (c .count) }))
+      names s w t few h tail = goes e (record { port = port; queue = queue; tries = few; length = h; tail = tail })
 
-      steps : (s : Stage) → c .tries ≤ 4 → k ≤ most s (c .tries) → TailDue s words (getD tails (c .queue .0) 0) → (former : ℕ) →
+      -- R4, where the tail is inside
+      module _ (t : c .tries ≤ 5) (h : k ≤ most R4 (c .tries)) (tail : PortInside words (getD tails (c .queue .0) 0)) where
+        first-cas : c .tries ≤ 1 → Moves (afterFirstCas c e seen)
+        unfolding afterFirstCas
+        first-cas l = choose Moves (not (has Linked seen)) (names R5 0 0 (omega arith) (omega arith) tt) (names SetBusy 0 0 (omega arith) (omega arith) tail)
+
+        later-cas : 1 < c .tries → Moves (afterLaterCas c e seen)
+        unfolding afterLaterCas
+        later-cas l =
+            choose Moves (not (has Linked seen)) clears
+            (by-test Moves (leb 5 (c .tries)) (λ f. clears) (λ f. names R4 seen (c .tries + 1) (omega (arith, leb-false 5 (c .tries) f)) (omega arith) tail))
+          where
+            clears : Moves (goesOn e (clearing c seen))
+            clears = names ClearBusy seen 0 (omega arith) (omega arith) tail
+
+        compares : Moves (replyR4 c e seen)
+        unfolding replyR4
+        compares =
+            choose Moves (casTaken seen (c .word)) (tailed e Done)
+            (by-test Moves (leb (c .tries) 1) (λ f. first-cas (leb-true (c .tries) 1 f)) (λ f. later-cas (leb-false (c .tries) 1 f)))
+
+      steps : (s : Stage) → c .tries ≤ 5 → k ≤ most s (c .tries) → TailDue s words (getD tails (c .queue .0) 0) → (former : ℕ) →
           Moves (stagedAt s c e (record { tail = getD tails (priority e) 0; former = former }) seen)
-      unfolding replyFirst replyR4 replyR5 replyR6
+      unfolding replyFirst replyR3 replySetBusy replyClearBusy replyR5 replyR6
       steps First t h tail former = first h (c .owner)
       steps R2 t h tail former = links h former
-      steps R3 t h tail former = compares 0 (omega arith) h tail
-      steps R4 t h tail former = choose Moves (casTaken seen (c .word)) (tailed e Done) (compares (c .tries) t h tail)
+      steps R3 t h tail former = choose Moves (not (has Linked seen)) (names R5 0 0 (omega arith) (omega arith) tt) (names R4 seen 1 (omega arith) (omega arith) tail)
+      steps R4 t h tail former = compares t h tail
+      steps SetBusy t h tail former = choose Moves (not (has Linked seen)) (names ClearBusy seen 0 (omega arith) (omega arith) tail) (names R4 _ 2 (omega arith) (omega arith) tail)
+      steps ClearBusy t h tail former = choose Moves (has Linked (c .word)) (tailed e LinkAbandoned) (names R5 0 0 (omega arith) (omega arith) tt)
       steps R5 t h tail former = record { tail = inr port; call = λ f. record { port = port; queue = queue; tries = omega arith; length = omega arith; tail = tt } }
       steps R6 t h tail former = choose Moves (isReady (c .queue .0) seen) (ended e Done _) (ended e UpcallWanted _)
 
@@ -186,6 +211,8 @@ module _ (words : ℕ) (tail : ℕ) (c : Call) (port : PortInside words (c .port
   due-inside n R2 t = port
   due-inside n R3 t = t
   due-inside n R4 t = t
+  due-inside n SetBusy t = t
+  due-inside n ClearBusy t = t
   due-inside n R5 t = queue
   due-inside n R6 t = tt
 
@@ -199,6 +226,8 @@ wider-due First words more t h i = tt
 wider-due R2 words more t h i = tt
 wider-due R3 words more t h i = wider h i
 wider-due R4 words more t h i = wider h i
+wider-due SetBusy words more t h i = wider h i
+wider-due ClearBusy words more t h i = wider h i
 wider-due R5 words more t h i = tt
 wider-due R6 words more t h i = tt
 
@@ -210,11 +239,13 @@ tails-set words tails j v h i q = go (eqb q j) refl (ltb j (length tails)) refl
     go true e true l = rw (eqb-true q j e, getD-set-same tails j v 0 (ltb-true _ _ l)) h
     go true e false l = rw (set-out tails j v (ltb-false _ _ l)) (i q)
 
-at-most : (s : Stage) (t k : ℕ) → t ≤ 4 → k ≤ most s t → k ≤ callLimit
+at-most : (s : Stage) (t k : ℕ) → t ≤ 5 → k ≤ most s t → k ≤ callLimit
 at-most First t k h l = omega arith
 at-most R2 t k h l = omega arith
 at-most R3 t k h l = omega arith
 at-most R4 t k h l = omega arith
+at-most SetBusy t k h l = omega arith
+at-most ClearBusy t k h l = omega arith
 at-most R5 t k h l = omega arith
 at-most R6 t k h l = omega arith
 
@@ -298,7 +329,7 @@ calls-bounded n =
       keeps = keeps n;
       length = λ s i. i .most;
       due = waits-inside n;
-      ends = λ d act. ends-turn n d (kind n d act);
+      ends = λ d act a count o. ends-turn n d (kind n d act) a count;
       free = refl;
     })
     (names-due n) (counts-calls n)

@@ -1,4 +1,4 @@
--- A call that names nine accesses and a service that names five, run.
+-- A call that names twelve accesses, a service that names five and a clear_mask that names two, run.
 -- Assumes nothing.
 use mathlib.Core.Path.{refl}
 use Rattle.machine.specs.Computes.{runs}
@@ -6,4 +6,4 @@ use Rattle.claims.specs.Reach.{LimitsReached}
 
 pub limits-reached : LimitsReached
 unfolding runs
-limits-reached = (refl, refl)
+limits-reached = record { call = refl; service = refl; clear = refl }

@@ -15,26 +15,28 @@ use Rattle.calls.specs.declared.types.Domain.{Domain}
 use Rattle.calls.specs.declared.types.Outcome.{Outcome}
 use Rattle.calls.specs.declared.types.GuestOutcome.{GuestOutcome}
 use Rattle.calls.specs.Answers.{codeOf}
-use Rattle.calls.specs.Guest.{guestDueOf, maskOf}
+use Rattle.calls.specs.Records.{isClearing}
+use Rattle.calls.specs.Guest.{maskOf}
+use Rattle.calls.specs.ClearMask.{guestDueOf}
 use Rattle.calls.specs.Hypervisor.{dueOf, expandArray}
 use Rattle.calls.specs.Claims as acts
 use Rattle.calls.proofs.Cases.{choose}
 use Rattle.machine.specs.declared.types.Side.the-variants as side
 use Rattle.machine.specs.declared.types.Start.{Start}
 use Rattle.machine.specs.declared.types.Start.the-variants.{InitControl, ExpandArray, Bind, Close, SetPriority, Raise, Unmask}
-use Rattle.machine.specs.declared.types.GuestStart.the-variants.{Service, Mask, Tell}
+use Rattle.machine.specs.declared.types.GuestStart.the-variants.{Service, Mask, ClearMask, Tell}
 use Rattle.machine.specs.declared.types.Step.{Step}
 use Rattle.machine.specs.declared.types.Step.the-variants as step
 use Rattle.machine.specs.declared.types.Event.{Event}
-use Rattle.machine.specs.declared.types.Event.the-variants.{Nothing, HypervisorAccess, GuestAccess, MaskAccess, HypervisorAnswer, GuestAnswer}
+use Rattle.machine.specs.declared.types.Event.the-variants.{Nothing, HypervisorAccess, GuestAccess, ClearAccess, MaskAccess, HypervisorAnswer, GuestAnswer}
 use Rattle.machine.specs.Memory.{Memory, performed}
-use Rattle.machine.specs.Exec.{World, advanced, stepOf, listOf, hypervisorAnswer, guestAnswer, hypervisorAdvance, guestAdvance, hypervisorStep, guestStep, startStep, pageAdded, turned, expandOf, startOf, performHypervisorNext, performHypervisor, performGuestNext, performGuest, performMasking, performMask, guestStartOf, performSide, handBack, advanceOf, exec, execAll}
+use Rattle.machine.specs.Exec.{World, advanced, stepOf, listOf, hypervisorAnswer, guestAnswer, hypervisorAdvance, guestAdvance, hypervisorStep, guestStep, startStep, pageAdded, turned, expandOf, startOf, performHypervisorNext, performHypervisor, guestAccess, performGuestNext, performGuest, performMasking, performMask, guestStartOf, performSide, handBack, advanceOf, exec, execAll}
 use Rattle.machine.specs.Computes.{runs}
 use Rattle.claims.specs.SmallSet.{x}
 use Rattle.claims.specs.Numbers.{Small, All, SmallEvent, SmallMemory, SmallWorld, SmallStep, SmallStepped, NumbersStaySmall, RunsStaySmall, FreshIsSmall, start, linking, NumberExamples}
 use Rattle.claims.proofs.NumberLaws.{SmallNext, zeros-small, page-small, events-small, answer-small, seen-small, performed-small}
 use Rattle.claims.proofs.HypervisorNumbers.{SmallOutcome, idle-call-small, next-small, start-small, reply-small}
-use Rattle.claims.proofs.GuestNumbers.{SmallGuestOutcome, SmallMasking, idle-service-small, guest-next-small, service-small, service-reply-small, tell-small, mask-small}
+use Rattle.claims.proofs.GuestNumbers.{SmallGuestOutcome, SmallMasking, idle-service-small, idle-clear-small, guest-due-small, service-small, clear-mask-small, guest-reply-small, tell-small, mask-small}
 
 -- ---- events
 
@@ -42,6 +44,7 @@ event-small : (e : Event) → SmallEvent e → All SmallEvent (listOf e)
 event-small Nothing h = tt
 event-small (HypervisorAccess c a seen) h = (h, tt)
 event-small (GuestAccess c a seen) h = (h, tt)
+event-small (ClearAccess c a seen) h = (h, tt)
 event-small (MaskAccess a seen) h = (h, tt)
 event-small (HypervisorAnswer a count) h = (h, tt)
 event-small (GuestAnswer a count) h = (h, tt)
@@ -107,22 +110,24 @@ module _ {n : ℕ} (wide : Width n) (w : World) (i : SmallWorld w) where
   hypervisor-performs (next.Answer a count) h = by-hypervisor w i Nothing tt (w .memory) (i .memory) _ _ (reply-small wide (w .domain) (i .domain) (w .ledger) 0 (lit≤ tt))
 
   guest-performs : (x : Next) → SmallNext x → SmallStepped (stepOf (guestStep w (performGuestNext n (w .guest) (w .memory) x)))
+  unfolding guestAccess
   guest-performs (next.Access x) h =
       let seen = seen-small (w .memory) (i .memory) x in
-      by-guest w i (GuestAccess (w .guest .call) x (performed (w .memory) x .seen)) (h, seen) _ (performed-small (w .memory) (i .memory) x h) _
-      (service-reply-small wide (w .guest) (i .guest) _ seen)
-  guest-performs (next.Answer a count) h = by-guest w i Nothing tt (w .memory) (i .memory) _ (service-reply-small wide (w .guest) (i .guest) 0 (lit≤ tt))
+      by-guest w i (guestAccess (w .guest) x (performed (w .memory) x .seen)) (choose SmallEvent (isClearing (w .guest .clear .stage)) (h, seen) (h, seen)) _
+      (performed-small (w .memory) (i .memory) x h) _ (guest-reply-small wide (w .guest) (i .guest) _ seen)
+  guest-performs (next.Answer a count) h = by-guest w i Nothing tt (w .memory) (i .memory) _ (guest-reply-small wide (w .guest) (i .guest) 0 (lit≤ tt))
 
   steps : (s : Step) → SmallStep s → SmallStepped (stepOf (advanceOf n w s))
   unfolding advanceOf guestStartOf performMask performSide performHypervisor performGuest handBack codeOf
   steps (step.Hypervisor s) h = starts s
   steps (step.Guest Service) h = by-guest w i Nothing tt (w .memory) (i .memory) _ (service-small wide (w .guest) (i .guest))
   steps (step.Guest (Mask p)) h = masks (maskOf n p (w .guest .words)) (mask-small wide p (w .guest .words))
+  steps (step.Guest (ClearMask p)) h = by-guest w i Nothing tt (w .memory) (i .memory) _ (clear-mask-small wide (w .guest) (i .guest) p)
   steps (step.Guest (Tell words)) h = by-guest w i Nothing tt (w .memory) (i .memory) _ (tell-small wide (w .guest) (i .guest) words)
   steps (step.Perform side.Hypervisor) h = hypervisor-performs (dueOf n (w .domain)) (next-small wide (w .domain) (i .domain) NoCall 0 (answer-small refl))
-  steps (step.Perform side.Guest) h = guest-performs (guestDueOf n (w .guest)) (guest-next-small wide (w .guest) (i .guest) NoCall 0 (answer-small refl))
+  steps (step.Perform side.Guest) h = guest-performs (guestDueOf n (w .guest)) (guest-due-small wide (w .guest) (i .guest))
   steps (step.HandBack side.Hypervisor word) h = by-hypervisor w i Nothing tt (w .memory) (i .memory) _ _ (reply-small wide (w .domain) (i .domain) (w .ledger) word h)
-  steps (step.HandBack side.Guest word) h = by-guest w i Nothing tt (w .memory) (i .memory) _ (service-reply-small wide (w .guest) (i .guest) word h)
+  steps (step.HandBack side.Guest word) h = by-guest w i Nothing tt (w .memory) (i .memory) _ (guest-reply-small wide (w .guest) (i .guest) word h)
 
 pub numbers-stay-small : NumbersStaySmall
 numbers-stay-small n wide w s i h = steps wide w i s h
@@ -139,7 +144,7 @@ pub fresh-is-small : FreshIsSmall
 fresh-is-small ledger words =
     record {
       domain = record { tails = zeros-small 16; call = idle-call-small };
-      guest = record { heads = zeros-small 16; call = idle-service-small };
+      guest = record { heads = zeros-small 16; call = idle-service-small; clear = idle-clear-small };
       memory = record { words = zeros-small words; block = zeros-small 18 };
     }
 

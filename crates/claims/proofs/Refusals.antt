@@ -15,7 +15,7 @@ use Rattle.calls.specs.declared.types.Domain.{Domain}
 use Rattle.calls.specs.declared.types.GuestOutcome.{GuestOutcome}
 use Rattle.calls.specs.declared.types.Guest.{Guest}
 use Rattle.calls.specs.declared.types.Owner.the-variants as owner
-use Rattle.calls.specs.Records.{isFree, idleCall, withCall}
+use Rattle.calls.specs.Records.{isFree, isClearing, idleCall, withCall}
 use Rattle.calls.specs.Guest.{isServing}
 use Rattle.calls.specs.Hypervisor.{Turn, turn}
 use Rattle.calls.specs.Claims.{Act, GuestAct, turnOf, guestTurnOf, lent, isReply, isGuestReply, isRefusal, ServedQueueCleared}
@@ -28,7 +28,7 @@ use Rattle.machine.specs.declared.types.Side.{Side}
 use Rattle.machine.specs.declared.types.Side.the-variants as side
 use Rattle.machine.specs.declared.types.Step.{Step}
 use Rattle.machine.specs.declared.types.Event.{Event}
-use Rattle.machine.specs.declared.types.Event.the-variants.{Nothing, HypervisorAccess, GuestAccess, MaskAccess, HypervisorAnswer, GuestAnswer}
+use Rattle.machine.specs.declared.types.Event.the-variants.{Nothing, HypervisorAccess, GuestAccess, ClearAccess, MaskAccess, HypervisorAnswer, GuestAnswer}
 use Rattle.machine.specs.Memory.{Memory}
 use Rattle.machine.specs.Exec.{World, Advanced, world, stepOf, listOf, hypervisorAnswer, guestAnswer, isAnswer, isReplyStep, memoryAfter}
 use Rattle.machine.proofs.StepActs.{Acted, byHypervisor, byGuest, byMask, acted}
@@ -41,6 +41,7 @@ after-access : {by : Side} {a : Answer} (access : Event) (es : List Event) → i
 after-access Nothing es h g = g
 after-access (HypervisorAccess c x seen) es h (later g) = g
 after-access (GuestAccess c x seen) es h (later g) = g
+after-access (ClearAccess c x seen) es h (later g) = g
 after-access (MaskAccess x seen) es h (later g) = g
 after-access (HypervisorAnswer x count) es h g = absurd (true≢false h)
 after-access (GuestAnswer x count) es h g = absurd (true≢false h)
@@ -79,6 +80,7 @@ access-alone : (m : Memory) (access : Event) (es : List Event) → ((m : Memory)
 access-alone m Nothing es h = sym (h _)
 access-alone m (HypervisorAccess c x seen) es h = sym (h _)
 access-alone m (GuestAccess c x seen) es h = sym (h _)
+access-alone m (ClearAccess c x seen) es h = sym (h _)
 access-alone m (MaskAccess x seen) es h = sym (h _)
 access-alone m (HypervisorAnswer x count) es h = sym (h _)
 access-alone m (GuestAnswer x count) es h = sym (h _)
@@ -96,9 +98,12 @@ only-16 (atStart h) r f = absurd (false≢true r)
 only-16 (sixteen free) r f = free
 only-16 (fourteen busy l) r f = absurd (f refl)
 
-only-16-serving : {g : Guest} {act : GuestAct} {a : Answer} → guest.Refusal g act a → isGuestReply act ≡ true → isServing (g .call .stage) ≡ false
-only-16-serving guest.fifteen r = absurd (false≢true r)
-only-16-serving (guest.sixteen free) r = free
+guest-only-16 : {g : Guest} {act : GuestAct} {a : Answer} → guest.Refusal g act a → isGuestReply act ≡ true → (isClearing (g .clear .stage) ≡ false) × (isServing (g .call .stage) ≡ false)
+guest-only-16 guest.fifteen r = absurd (false≢true r)
+guest-only-16 guest.clearFifteen r = absurd (false≢true r)
+guest-only-16 guest.clearThree r = absurd (false≢true r)
+guest-only-16 guest.clearSix r = absurd (false≢true r)
+guest-only-16 (guest.sixteen none free) r = (none, free)
 
 -- ---- the claims, by what the step did
 
@@ -140,7 +145,7 @@ module _ (n : ℕ) (w : World) where
       none (λ p. only-16 (why-refused n (w .domain) act a (f .count) (f .same) r (subst (λ (b : Side). a ≢ ending b) (f .side) other)) p (entry (sym reply ∙ p)))
   no-access-made (byGuest act access reply h none) by a g r other entry =
       let f = guest-given access (guestTurnOf n (w .guest) act .next) h g in
-      none (only-16-serving (guest-why-refused n (w .guest) act a (f .count) (f .same) r (subst (λ (b : Side). a ≢ ending b) (f .side) other)))
+      none (guest-only-16 (guest-why-refused n (w .guest) act a (f .count) (f .same) r (subst (λ (b : Side). a ≢ ending b) (f .side) other)))
   no-access-made (byMask {a = b} {count = count} access other reply h none) by a g r kept entry =
       none (ap isRefusal (same-answer (guest-given access (next.Answer b count) h g .same)) ∙ r)
 

@@ -25,7 +25,7 @@ module _ {Record Request : Type 0} (side : Side Record Request) (P : Counting Re
       pub keeps : (s : Counting Record) → P s → (act : Request) → P (runOne side s act)
       pub length : (s : Counting Record) → P s → s .named ≤ limit
       pub due : (s : Counting Record) → P s → (x : Access) → side .due (s .state) ≡ next.Access x → Inside (wordsOf (s .state)) (placeOf x)
-      pub ends : (r : Record) (act : Request) (a : Answer) (count : ℕ) → side .replies act ≡ true → side .gives r act ≡ next.Answer a count → a ≢ NoEntry → side .underWay (side .after r act) ≡ false
+      pub ends : (r : Record) (act : Request) (a : Answer) (count : ℕ) → side .own r act ≡ true → side .replies act ≡ true → side .gives r act ≡ next.Answer a count → a ≢ NoEntry → side .underWay (side .after r act) ≡ false
       pub free : side .underWay fresh ≡ false
 
     module _ {fresh : Record} (b : Bounds fresh) (names : NamesDue side) (counts : Counts side) where
@@ -36,7 +36,7 @@ module _ {Record Request : Type 0} (side : Side Record Request) (P : Counting Re
             stored = λ u. rw (counts fresh acts (b .free) .kept u) (small true (b .length s i));
             due = b .due s i;
             names = λ act x e. b .due (runOne side s act) (b .keeps s i act) x (names (s .state) act x e);
-            count = λ act a count e. rw (counts fresh acts (b .free) .given act a count e) (small (endsCall side (s .state) act) (b .length s i));
+            count = λ act a count o e. rw (counts fresh acts (b .free) .given act a count o e) (small (endsCall side (s .state) act) (b .length s i));
             ends = b .ends (s .state);
           }
         where

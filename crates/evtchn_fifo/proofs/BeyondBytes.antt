@@ -10,29 +10,34 @@ use lib.Dec.{ltb}
 use borrow.Author.Tests.{ltb-true}
 use native.Mathlib.Omega.{arith}
 use Rattle.word.specs.declared.Port.{Port}
+use Rattle.word.specs.Word.{portAt}
 use Rattle.word.specs.Entry.{freshEntry}
 use Rattle.calls.specs.declared.types.Call.{Call}
 use Rattle.calls.specs.declared.types.GuestCall.{GuestCall}
+use Rattle.calls.specs.declared.types.ClearCall.{ClearCall}
 use Rattle.calls.specs.declared.types.Next.{Next}
 use Rattle.calls.specs.declared.types.Next.the-variants as next
 use Rattle.calls.specs.declared.records.Lookup.{Lookup}
 use Rattle.calls.specs.declared.records.Lookup.the-variants.{Found, Missing}
 use Rattle.calls.specs.declared.hypervisor.stage.Move.{Move}
 use Rattle.calls.specs.declared.guest.GuestMove.{GuestMove}
+use Rattle.calls.specs.declared.clear_mask.ClearMove.{ClearMove}
 use Rattle.calls.specs.declared.hypervisor.start.Acceptance.{Acceptance}
 use Rattle.calls.specs.declared.hypervisor.start.Acceptance.the-variants as acceptance
 use Rattle.calls.specs.declared.hypervisor.start.Begin.{Begin}
 use Rattle.calls.specs.declared.hypervisor.start.Begin.the-variants as begin
-use Rattle.calls.specs.Records.{isFree}
+use Rattle.calls.specs.Records.{isFree, guestIdle, isClearing}
 use Rattle.calls.specs.Hypervisor.{acceptInit, acceptExpand}
 use Rattle.calls.specs.Guest.{isServing, serviceStart}
+use Rattle.calls.specs.ClearMask.{clearStaged, clearMaskStart}
 use Rattle.evtchn_fifo.specs.Numbers.{putNumber, putNumbers, putValue, narrow}
 use Rattle.evtchn_fifo.specs.Encoded.{EncodedNext, Wrote, Carried, carried, Freshened}
 use Rattle.evtchn_fifo.specs.Ledger.{entries, entryIn, putEntry, fillEntries, freshLedgerBytes}
 use Rattle.evtchn_fifo.specs.DomainRecord.{domainSize, callAt, ownerAt, givenAt, pagesAt, putNext, putCall, putMove, putDomain}
-use Rattle.evtchn_fifo.specs.GuestRecord.{guestSize, serviceAt, withoutHeads, putService, putGuestMove, putGuest}
+use Rattle.evtchn_fifo.specs.GuestRecord.{guestSize, wordsAt, serviceAt, clearCallAt, withoutHeads, putService, putGuestMove, putClear, putClearMove, putGuest}
 use Rattle.evtchn_fifo.specs.Hypervisor.{startsOf, onPort, startBytes, initBytes, initBytesOf, expandBytes, expandBytesOf, replyBytes, replyFoundBytes, moveAt, moveBytes, freshDomainBytes}
-use Rattle.evtchn_fifo.specs.Guest.{beganBytes, serviceBytes, guestMoveAt, guestMoveBytes, serviceReplyBytes, tellBytes, freshGuestBytes}
+use Rattle.evtchn_fifo.specs.Guest.{beganBytes, serviceBytes, guestMoveAt, guestMoveBytes, tellBytes, freshGuestBytes}
+use Rattle.evtchn_fifo.specs.ClearMask.{clearBeganBytes, clearMaskBytes, clearMoveBytes, guestReplyBytes}
 use Rattle.evtchn_fifo.specs.Claims.{Beyond, BothBeyond, BeyondStays}
 
 -- ---- what is written stays below a size
@@ -91,6 +96,15 @@ service r c =
     (then (four guestSize r 72 _ (omega arith)) (four guestSize _ 76 _ (omega arith)))
     (four guestSize _ 80 _ (omega arith)))
     (four guestSize _ 84 _ (omega arith))
+
+clear : (r : List ℕ) (c : ClearCall) → Beyond guestSize r (putClear r c)
+unfolding putClear
+clear r c =
+    then
+    (then
+    (then (four guestSize r 88 _ (omega arith)) (four guestSize _ 92 _ (omega arith)))
+    (four guestSize _ 96 _ (omega arith)))
+    (four guestSize _ 100 _ (omega arith))
 
 -- ---- the ledger
 
@@ -161,19 +175,29 @@ guest-moves r m =
     let readied = then (four guestSize r 64 (m .ready) (omega arith)) (value guestSize 0 _ (m .queue .0) (m .head) (omega arith)) in
     bytes-if guestSize r (isServing (m .call .stage)) _ _ (then readied (service _ (m .call))) (then readied (four guestSize _ 72 0 (omega arith)))
 
+clears : (r : List ℕ) (c : ClearCall) (x : Next) → Beyond guestSize r (clearBeganBytes r c x .record-bytes)
+clears r c (next.Answer a count) = stays
+clears r c (next.Access x) = clear r c
+
+clear-moves : (r : List ℕ) (m : ClearMove) → Beyond guestSize r (putClearMove r m)
+clear-moves r m = bytes-if guestSize r (isClearing (m .call .stage)) _ _ (clear r (m .call)) (four guestSize r 88 0 (omega arith))
+
 pub beyond-stays : (n : ℕ) → BeyondStays n
-unfolding onPort replyBytes initBytes expandBytes serviceBytes serviceReplyBytes guestMoveBytes tellBytes freshDomainBytes freshGuestBytes freshLedgerBytes putDomain putGuest
+unfolding onPort replyBytes initBytes expandBytes serviceBytes clearMaskBytes guestReplyBytes guestMoveBytes clearMoveBytes tellBytes freshDomainBytes freshGuestBytes freshLedgerBytes putDomain putGuest
 beyond-stays n = record {
   port-call = λ c p r t. both-if r t (ltb (length r) domainSize) _ _ neither (starts n r t p (startsOf n c (ownerAt r) (givenAt r) (pagesAt r) p (entryIn t (p .0))));
   reply = λ seen r t. both-if r t (ltb (length r) domainSize) _ _ neither (both-if r t (isFree (callAt r .owner)) _ _ neither (finds n r t seen (entryIn t (callAt r .port .0))));
   init-control = λ vcpu frame frames offset r. wrote-if domainSize r (ltb (length r) domainSize) _ _ stays (inits n r (acceptInit (ownerAt r) (givenAt r) (narrow vcpu) frame frames (narrow offset)));
   expand-array = λ frame frames r. wrote-if domainSize r (ltb (length r) domainSize) _ _ stays (expands r (acceptExpand n (ownerAt r) (givenAt r) (pagesAt r) frame frames));
-  service = λ r. wrote-if guestSize r (ltb (length r) guestSize) _ _ stays (serves r _ (serviceStart n (withoutHeads 0 (serviceAt r)) .next));
-  service-reply = λ seen r. wrote-if guestSize r (ltb (length r) guestSize) _ _ stays (wrote-if guestSize r (not (isServing (serviceAt r .stage))) _ _ stays (guest-moves r (guestMoveAt n r seen)));
+  service = λ r. wrote-if guestSize r (ltb (length r) guestSize) _ _ stays (serves r _ (serviceStart n (withoutHeads 0 (serviceAt r) (clearCallAt r)) .next));
+  clear-mask = λ p r. wrote-if guestSize r (ltb (length r) guestSize) _ _ stays (clears r _ (clearMaskStart n (withoutHeads (wordsAt r) guestIdle (clearCallAt r)) (portAt (narrow p)) .next));
+  guest-reply = λ seen r. wrote-if guestSize r (ltb (length r) guestSize) _ _ stays
+      (wrote-if guestSize r (isClearing (clearCallAt r .stage)) _ _ (clear-moves r (clearStaged (clearCallAt r) seen))
+      (wrote-if guestSize r (not (isServing (serviceAt r .stage))) _ _ stays (guest-moves r (guestMoveAt n r seen))));
   tell = λ words r. wrote-if guestSize r (ltb (length r) guestSize) _ _ stays (four guestSize r 68 _ (omega arith));
   fresh-domain = λ r. fresh-if domainSize r (ltb (length r) domainSize) _ _ stays
       (then (then (then (four domainSize r 0 _ (omega arith)) (four domainSize _ 4 _ (omega arith))) (numbers domainSize _ 3 _ 8 (omega arith))) (call _ _));
   fresh-guest = λ r. fresh-if guestSize r (ltb (length r) guestSize) _ _ stays
-      (then (then (then (numbers guestSize _ 3 r 0 (omega arith)) (four guestSize _ 64 _ (omega arith))) (four guestSize _ 68 _ (omega arith))) (service _ _));
+      (then (then (then (numbers guestSize _ 3 r 0 (omega arith)) (four guestSize _ 64 _ (omega arith))) (four guestSize _ 68 _ (omega arith))) (then (service _ _) (clear _ _)));
   fresh-ledger = λ t. fills (entries t * 2) (entries t) t freshEntry (omega arith);
 }

@@ -12,13 +12,13 @@ use Rattle.word.specs.Entry.{priority, lastQueue}
 use Rattle.calls.specs.declared.types.Owner.{Owner}
 use Rattle.calls.specs.declared.types.Owner.the-variants as owner
 use Rattle.calls.specs.declared.types.Stage.{Stage}
-use Rattle.calls.specs.declared.types.Stage.the-variants.{First, R2, R3, R4, R5, R6}
+use Rattle.calls.specs.declared.types.Stage.the-variants.{First, R2, R3, R4, SetBusy, ClearBusy, R5, R6}
 use Rattle.calls.specs.declared.types.Call.{Call}
 use Rattle.calls.specs.declared.types.Domain.{Domain}
 use Rattle.calls.specs.declared.types.Answer.{Answer}
 use Rattle.calls.specs.declared.hypervisor.stage.Move.{Move}
 use Rattle.calls.specs.Records.{isFree, idleCall, withCall}
-use Rattle.calls.specs.Hypervisor.{viewOf, moved, nextOf, due}
+use Rattle.calls.specs.Hypervisor.{viewOf, moved, nextOf}
 use Rattle.evtchn_fifo.specs.Numbers.{numberAt, putNumber, numbersAt, putValue, putValues}
 use Rattle.evtchn_fifo.specs.Encoded.{encodedNext}
 use Rattle.evtchn_fifo.specs.DomainRecord.{putTail, ownerCode, ownerOf, stageCode, stageOf, givenCode, givenAt, ownerAt, callAt, viewAt, domainAt, orIdle, putNext, putCall, putEnd, putMove, putDomain}
@@ -43,14 +43,18 @@ stage-back R3 = refl
 stage-back R4 = refl
 stage-back R5 = refl
 stage-back R6 = refl
+stage-back SetBusy = refl
+stage-back ClearBusy = refl
 
-stage-known : (s : Stage) → ltb (stageCode s) 6 ≡ true
+stage-known : (s : Stage) → ltb (stageCode s) 8 ≡ true
 stage-known First = refl
 stage-known R2 = refl
 stage-known R3 = refl
 stage-known R4 = refl
 stage-known R5 = refl
 stage-known R6 = refl
+stage-known SetBusy = refl
+stage-known ClearBusy = refl
 
 given-back : (b : Bool) → not (eqb (givenCode b) 0) ≡ b
 given-back true = refl
@@ -131,7 +135,7 @@ none-if false = refl
 
 ended-free : (r : List ℕ) → leb 100 (length r) ≡ true → isFree (callAt (putEnd r) .owner) ≡ true
 unfolding callAt ownerAt ownerOf
-ended-free r h = rw (read-back 100 r 72 0 h refl) (none-if (ltb (numberAt 3 (putEnd r) 76) 6))
+ended-free r h = rw (read-back 100 r 72 0 h refl) (none-if (ltb (numberAt 3 (putEnd r) 76) 8))
 
 pub domain-end : (r : List ℕ) → leb 100 (length r) ≡ true → domainAt (putEnd r) ≡ withCall (domainAt r) idleCall
 unfolding domainAt givenAt

@@ -1,18 +1,19 @@
--- A refusal keeps every byte: whatever changes one is answered 0, 1, 2 or 7, by 18 to 21, or by an access.
+-- A refusal keeps every byte: whatever changes one is answered 0, 1, 2 or 7, by 18 to 21 or 35, or by an access.
 -- Assumes nothing.
 use Prim.Native.Nat.{ℕ, _<_, _≤_}
 use mathlib.Core.Path.{_≡_, refl, ap}
-use mathlib.Core.Bool.{Bool, true, false, cond, not}
+use mathlib.Core.Bool.{Bool, true, false, cond, not, false≢true}
 use mathlib.Core.List.{List}
 use lib.ListN.{length}
 use lib.Dec.{eqb, ltb, leb}
 use native.Mathlib.Omega.{arith}
 use Rattle.word.specs.declared.Port.{Port}
-use Rattle.word.specs.declared.Flag.the-variants.{Pending, Masked, Linked}
+use Rattle.word.specs.declared.Flag.the-variants.{Pending, Masked, Linked, Busy}
 use Rattle.word.specs.Word.{has, link, portAt, queueAt}
 use Rattle.word.specs.declared.Queue.{Queue}
 use Rattle.word.specs.Effect.{casTaken}
 use Rattle.word.specs.Ready.{isReady, merged}
+use Rattle.calls.specs.declared.types.Place.the-variants.{Word}
 use Rattle.calls.specs.declared.types.Access.{Access}
 use Rattle.calls.specs.declared.types.Access.the-variants.{Read, Store, Or, And, Swap, Cas}
 use Rattle.calls.specs.declared.types.Answer.{Answer}
@@ -20,31 +21,39 @@ use Rattle.calls.specs.declared.types.Answer.the-variants.{Done, NoCall, BadInd
 use Rattle.calls.specs.declared.types.Owner.{Owner}
 use Rattle.calls.specs.declared.types.Owner.the-variants as owner
 use Rattle.calls.specs.declared.types.Stage.{Stage}
-use Rattle.calls.specs.declared.types.Stage.the-variants.{First, R2, R3, R4, R5, R6}
+use Rattle.calls.specs.declared.types.Stage.the-variants.{First, R2, R3, R4, SetBusy, ClearBusy, R5, R6}
 use Rattle.calls.specs.declared.types.Call.{Call}
 use Rattle.calls.specs.declared.types.GuestStage.{GuestStage}
 use Rattle.calls.specs.declared.types.GuestStage.the-variants.{None, G0, G1, G2, G3, G4}
 use Rattle.calls.specs.declared.types.GuestCall.{GuestCall}
+use Rattle.calls.specs.declared.types.GuestOutcome.{GuestOutcome}
+use Rattle.calls.specs.declared.types.ClearStage.{ClearStage}
+use Rattle.calls.specs.declared.types.ClearStage.the-variants as clearStage
+use Rattle.calls.specs.declared.types.ClearCall.{ClearCall}
 use Rattle.calls.specs.declared.records.Lookup.{Lookup}
 use Rattle.calls.specs.declared.records.Lookup.the-variants.{Found, Missing}
 use Rattle.calls.specs.declared.hypervisor.stage.View.{View}
 use Rattle.calls.specs.declared.hypervisor.stage.Move.{Move}
 use Rattle.calls.specs.declared.guest.GuestMove.{GuestMove}
+use Rattle.calls.specs.declared.clear_mask.ClearMove.{ClearMove}
 use Rattle.calls.specs.declared.hypervisor.start.Acceptance.{Acceptance}
 use Rattle.calls.specs.declared.hypervisor.start.Acceptance.the-variants as acceptance
 use Rattle.calls.specs.declared.hypervisor.start.Begin.{Begin}
 use Rattle.calls.specs.declared.hypervisor.start.Begin.the-variants as begin
 use Rattle.calls.specs.Answers.{codeOf}
-use Rattle.calls.specs.Records.{isFree, guestCallAt, guestIdle}
-use Rattle.calls.specs.Hypervisor.{acceptInit, acceptExpand, due, staged, stagedAt, replyFirst, replyFirstOf, replyR1, replyU1, replyBind, replyClose, replyR2, triesCas, replyR4, replyR5, replyR6}
+use Rattle.calls.specs.Records.{isPort, isFree, guestCallAt, guestIdle, isClearing}
+use Rattle.calls.specs.Hypervisor.{acceptInit, acceptExpand, due, staged, stagedAt, replyFirst, replyFirstOf, replyR1, replyU1, replyBind, replyClose, replyR2, replyR3, afterFirstCas, afterLaterCas, replyR4, replySetBusy, replyClearBusy, replyR5, replyR6}
 use Rattle.calls.specs.Guest.{isServing, guestDue, serviceQueue, serviceStart, guestNext, guestStaged, guestStagedAt, replyG0, takesIndex, replyG2, replyG3, replyG4}
+use Rattle.calls.specs.ClearMask.{replyRead, replyCas, clearStagedAt, clearStaged, clearDue, clearNext, clearMaskStart}
+use Rattle.calls.proofs.Cases.{choose, by-test}
 use Rattle.evtchn_fifo.specs.Numbers.{narrow}
-use Rattle.evtchn_fifo.specs.Encoded.{EncodedNext, Wrote, wrote, Carried, carried, encodedAnswer, encodedAccess, encodedPlace, tooShort}
+use Rattle.evtchn_fifo.specs.Encoded.{EncodedNext, Wrote, wrote, Carried, carried, encodedAnswer, encodedAccess, encodedNext, encodedPlace, tooShort}
 use Rattle.evtchn_fifo.specs.Ledger.{entryIn}
 use Rattle.evtchn_fifo.specs.DomainRecord.{domainSize, callAt, ownerAt, givenAt, pagesAt, tailAt, viewAt, putCall, putMove}
-use Rattle.evtchn_fifo.specs.GuestRecord.{guestSize, serviceAt, withoutHeads, readyAt, wordsAt, headAt}
+use Rattle.evtchn_fifo.specs.GuestRecord.{guestSize, serviceAt, clearCallAt, withoutHeads, readyAt, wordsAt, headAt}
 use Rattle.evtchn_fifo.specs.Hypervisor.{Starts, startsOf, onPort, startBytes, initBytes, initBytesOf, expandBytes, expandBytesOf, nextAt, replyBytes, replyFoundBytes, moveAt, moveBytes}
-use Rattle.evtchn_fifo.specs.Guest.{serviceNextAt, beganOf, serviceBytes, serviceReplyBytes, guestMoveAt, guestMoveBytes}
+use Rattle.evtchn_fifo.specs.Guest.{serviceNextAt, beganOf, serviceBytes, guestMoveAt, guestMoveBytes}
+use Rattle.evtchn_fifo.specs.ClearMask.{clearBeganOf, clearMaskBytes, clearMoveBytes, guestReplyBytes}
 use Rattle.evtchn_fifo.specs.Claims.{Refusals}
 
 -- an access has a code of 256 or more
@@ -123,16 +132,21 @@ low-first owner.Close c e seen f = omega arith
 low-first owner.Raise c e seen f = low-if (has Masked seen) _ _ (omega arith) (low-if (has Linked seen) _ _ (omega arith) (omega arith))
 low-first owner.Unmask c e seen f = low-if (not (has Pending seen)) _ _ (omega arith) (low-if (has Linked seen) _ _ (omega arith) (omega arith))
 
-low-tries : (c : Call) (e tries seen : ℕ) → Low (triesCas c e tries seen)
-unfolding Low triesCas codeOf
-low-tries c e tries seen = low-if (not (has Linked seen)) _ _ (omega arith) (low-if (leb 4 tries) _ _ (omega arith) (omega arith))
+low-r4 : (c : Call) (e seen : ℕ) → Low (replyR4 c e seen)
+unfolding Low replyR4 afterFirstCas afterLaterCas codeOf
+low-r4 c e seen =
+    low-if (casTaken seen (c .word)) _ _ (omega arith)
+    (low-if (leb (c .tries) 1) _ _ (low-if (not (has Linked seen)) _ _ (omega arith) (omega arith))
+    (low-if (not (has Linked seen)) _ _ (omega arith) (low-if (leb 5 (c .tries)) _ _ (omega arith) (omega arith))))
 
 low-at : (s : Stage) (c : Call) (e : ℕ) (v : View) (seen : ℕ) → isFree (c .owner) ≡ false → Low (stagedAt s c e v seen)
-unfolding Low replyFirst replyR2 replyR4 replyR5 replyR6 codeOf
+unfolding Low replyFirst replyR2 replyR3 replySetBusy replyClearBusy replyR5 replyR6 codeOf
 low-at First c e v seen f = low-first (c .owner) c e seen f
 low-at R2 c e v seen f = low-if (has Linked seen) _ _ (omega arith) (omega arith)
-low-at R3 c e v seen f = low-tries c e 0 seen
-low-at R4 c e v seen f = low-if (casTaken seen (c .word)) _ _ (omega arith) (low-tries c e (c .tries) seen)
+low-at R3 c e v seen f = low-if (not (has Linked seen)) _ _ (omega arith) (omega arith)
+low-at R4 c e v seen f = low-r4 c e seen
+low-at SetBusy c e v seen f = low-if (not (has Linked seen)) _ _ (omega arith) (omega arith)
+low-at ClearBusy c e v seen f = low-if (has Linked (c .word)) _ _ (omega arith) (omega arith)
 low-at R5 c e v seen f = omega arith
 low-at R6 c e v seen f = low-if (isReady (c .queue .0) seen) _ _ (omega arith) (omega arith)
 
@@ -157,14 +171,27 @@ reply-keeps n r t seen = kept-if 8 r t (ltb (length r) domainSize) (carried tooS
 
 -- ---- the guest's calls
 
-service-by : (n : ℕ) (r : List ℕ) (b : Bool) → isServing (serviceAt r .stage) ≡ b → KeptAlone r (beganOf r (serviceStart n (withoutHeads 0 (serviceAt r))))
+service-by : (n : ℕ) (r : List ℕ) (k b : Bool) → isClearing (clearCallAt r .stage) ≡ k → isServing (serviceAt r .stage) ≡ b → KeptAlone r (beganOf r (serviceStart n (withoutHeads 0 (serviceAt r) (clearCallAt r))))
 unfolding serviceStart guestNext isServing
-service-by n r true e = rw e (λ l h. refl)
-service-by n r false e = rw e (λ l h. absurd (omega (arith, high (guestDue n (guestCallAt G0 (portAt 0) (queueAt 0) 1)))))
+service-by n r true b k e = rw k (λ l h. refl)
+service-by n r false true k e = rw (k, e) (λ l h. refl)
+service-by n r false false k e = rw (k, e) (λ l h. absurd (omega (arith, high (guestDue n (guestCallAt G0 (portAt 0) (queueAt 0) 1)))))
 
 service-keeps : (n : ℕ) (r : List ℕ) → KeptAlone r (serviceBytes n r)
 unfolding serviceBytes
-service-keeps n r = alone-if r (ltb (length r) guestSize) (wrote tooShort r) _ (λ l h. refl) (service-by n r (isServing (serviceAt r .stage)) refl)
+service-keeps n r = alone-if r (ltb (length r) guestSize) (wrote tooShort r) _ (λ l h. refl) (service-by n r (isClearing (clearCallAt r .stage)) (isServing (serviceAt r .stage)) refl refl)
+
+began-if : (r : List ℕ) (b : Bool) (x y : GuestOutcome) → KeptAlone r (clearBeganOf r x) → KeptAlone r (clearBeganOf r y) → KeptAlone r (clearBeganOf r (cond b x y))
+began-if r true x y a b = a
+began-if r false x y a b = b
+
+clear-keeps : (n : ℕ) (p : ℕ) (r : List ℕ) → KeptAlone r (clearMaskBytes n r p)
+unfolding clearMaskBytes clearMaskStart
+clear-keeps n p r =
+    alone-if r (ltb (length r) guestSize) (wrote tooShort r) _ (λ l h. refl)
+    (began-if r (isClearing (clearCallAt r .stage)) _ _ (λ l h. refl)
+    (began-if r (not (isPort n (narrow p))) _ _ (λ l h. refl)
+    (began-if r (leb (wordsAt r) (narrow p)) _ _ (λ l h. refl) (λ l h. absurd (omega (arith, high (Read (Word (portAt (narrow p))))))))))
 
 -- what a service's stage comes to is an access, or a number of 18 and more
 Far : ℕ → GuestMove → Type 0
@@ -216,10 +243,38 @@ reply-of n r seen false e h =
     let m = guestMoveAt n r seen in
     absurd (omega (arith, far-code n m (far-staged n (serviceAt r) (readyAt r) (wordsAt r) (headAt r (serviceQueue (readyAt r) seen .0)) seen e)))
 
-service-reply-by : (n : ℕ) (r : List ℕ) (seen : ℕ) (b : Bool) → ltb (length r) guestSize ≡ b → serviceReplyBytes n r seen .next .code < 18 → serviceReplyBytes n r seen ≡ wrote (serviceReplyBytes n r seen .next) r
-unfolding serviceReplyBytes
-service-reply-by n r seen true e h = rw e
-service-reply-by n r seen false e h = rw e (reply-of n r seen (not (isServing (serviceAt r .stage))) refl (rw e at h))
+-- a clear_mask's comes to an access, 0 or 35
+clear-far : ℕ → Type 0
+clear-far k = (1 ≤ k) → k < 18 → ⊥
+
+clear-next-far : (c : ClearCall) (a : Answer) (k : ℕ) → clear-far (codeOf a .number) → clear-far (encodedNext (clearNext c a k) .code)
+unfolding clear-far clearNext encodedNext encodedAnswer
+clear-next-far c a k f = by-test (λ x. (1 ≤ encodedNext x .code) → encodedNext x .code < 18 → ⊥) (isClearing (c .stage)) (λ e l h. omega (arith, high (clearDue c))) (λ e. f)
+
+ClearFar : ClearMove → Type 0
+ClearFar m = clear-far (codeOf (m .answer) .number)
+
+clear-far-at : (s : ClearStage) (c : ClearCall) (seen : ℕ) → isClearing s ≡ true → ClearFar (clearStagedAt s c seen)
+unfolding ClearFar clear-far isClearing replyRead replyCas codeOf
+clear-far-at clearStage.None c seen e = absurd (false≢true e)
+clear-far-at clearStage.Read c seen e =
+    choose ClearFar (not (has Masked seen)) (λ l h. omega arith)
+    (choose ClearFar (has Pending seen) (λ l h. omega arith) (choose ClearFar (has Busy seen) (λ l h. omega arith) (λ l h. omega arith)))
+clear-far-at clearStage.Cas c seen e = choose ClearFar (casTaken seen (c .word)) (λ l h. omega arith) (λ l h. omega arith)
+
+clear-staged-far : (c : ClearCall) (seen : ℕ) → isClearing (c .stage) ≡ true → clear-far (codeOf (clearStaged c seen .answer) .number)
+unfolding ClearFar clearStaged
+clear-staged-far c seen e = clear-far-at (c .stage) c seen e
+
+clear-reply-far : (r : List ℕ) (seen : ℕ) → isClearing (clearCallAt r .stage) ≡ true → 1 ≤ clearMoveBytes r (clearStaged (clearCallAt r) seen) .next .code → clearMoveBytes r (clearStaged (clearCallAt r) seen) .next .code < 18 → ⊥
+unfolding clearMoveBytes clear-far
+clear-reply-far r seen e = let m = clearStaged (clearCallAt r) seen in clear-next-far (m .call) (m .answer) (m .count) (clear-staged-far (clearCallAt r) seen e)
+
+guest-reply-by : (n : ℕ) (r : List ℕ) (seen : ℕ) (b k : Bool) → ltb (length r) guestSize ≡ b → isClearing (clearCallAt r .stage) ≡ k → 1 ≤ guestReplyBytes n r seen .next .code → guestReplyBytes n r seen .next .code < 18 → guestReplyBytes n r seen ≡ wrote (guestReplyBytes n r seen .next) r
+unfolding guestReplyBytes
+guest-reply-by n r seen true k e f l h = rw e
+guest-reply-by n r seen false true e f l h = absurd (clear-reply-far r seen f (rw (e, f) at l) (rw (e, f) at h))
+guest-reply-by n r seen false false e f l h = rw (e, f) (reply-of n r seen (not (isServing (serviceAt r .stage))) refl (rw (e, f) at h))
 
 pub refusals : (n : ℕ) → Refusals n
 unfolding initBytes expandBytes
@@ -229,5 +284,6 @@ refusals n = record {
   expand-array = λ frame frames r. alone-if r (ltb (length r) domainSize) (wrote tooShort r) _ (λ l h. refl) (expand-keeps r (acceptExpand n (ownerAt r) (givenAt r) (pagesAt r) frame frames));
   reply = λ seen r t. reply-keeps n r t seen;
   service = service-keeps n;
-  service-reply = λ seen r. service-reply-by n r seen (ltb (length r) guestSize) refl;
+  clear-mask = λ p r. clear-keeps n p r;
+  guest-reply = λ seen r. guest-reply-by n r seen (ltb (length r) guestSize) (isClearing (clearCallAt r .stage)) refl refl;
 }

@@ -5,6 +5,7 @@ pub mod DomainLaws
 pub mod GuestLaws
 pub mod UnderWayLaws
 pub mod ReplyLaws
+pub mod TailLaws
 pub mod KeptBytes
 pub mod Narrow
 pub mod BeyondBytes

@@ -20,7 +20,7 @@ use Rattle.calls.specs.declared.types.Call.{Call}
 use Rattle.calls.specs.declared.types.Owner.{Owner}
 use Rattle.calls.specs.declared.types.Owner.the-variants as owner
 use Rattle.calls.specs.declared.types.Stage.{Stage}
-use Rattle.calls.specs.declared.types.Stage.the-variants.{First, R2, R3, R4, R5, R6}
+use Rattle.calls.specs.declared.types.Stage.the-variants.{First, R2, R3, R4, SetBusy, ClearBusy, R5, R6}
 use Rattle.calls.specs.declared.hypervisor.start.PortAcceptance.{PortAcceptance}
 use Rattle.calls.specs.declared.hypervisor.start.PortAcceptance.the-variants as portAcceptance
 use Rattle.calls.specs.declared.types.Answer.the-variants.{Done, NoCall}
@@ -33,7 +33,7 @@ use Rattle.calls.specs.declared.hypervisor.start.Acceptance.the-variants as acc
 use Rattle.calls.specs.declared.hypervisor.start.Begin.{Begin}
 use Rattle.calls.specs.declared.hypervisor.start.Begin.the-variants as begin
 use Rattle.calls.specs.Records.{isFree, idleCall, withCall, entryAt, inArray, oneMore, freshDomain}
-use Rattle.calls.specs.Hypervisor.{started, initControl, initControlOf, expandArray, expandArrayOf, acceptInit, acceptExpand, bindStart, closeStart, setPriority, raiseStart, unmaskStart, replyOf, replyFound, dueOf, staged, stagedAt, viewOf, carriedOut, acceptPort, bindEntry, closeEntry, priorityEntry, linkEntry, beginBind, beginClose, beginPriority, beginLink, replyFirst, replyFirstOf, replyBind, replyClose, replyR1, replyU1, afterR2, replyR2, triesCas, replyR4, replyR5, replyR6}
+use Rattle.calls.specs.Hypervisor.{started, initControl, initControlOf, expandArray, expandArrayOf, acceptInit, acceptExpand, bindStart, closeStart, setPriority, raiseStart, unmaskStart, replyOf, replyFound, dueOf, staged, stagedAt, viewOf, carriedOut, acceptPort, bindEntry, closeEntry, priorityEntry, linkEntry, beginBind, beginClose, beginPriority, beginLink, replyFirst, replyFirstOf, replyBind, replyClose, replyR1, replyU1, afterR2, replyR2, replyR3, afterFirstCas, afterLaterCas, replyR4, replySetBusy, replyClearBusy, replyR5, replyR6}
 use Rattle.evtchn_fifo.specs.Hypervisor as portCall
 use Rattle.evtchn_fifo.specs.Numbers.{numberAt, numbersAt, narrow}
 use Rattle.evtchn_fifo.specs.Encoded.{encodedNext, encodedAnswer}
@@ -141,9 +141,12 @@ first-whole owner.Close c e seen f = idle-whole
 first-whole owner.Raise c e seen f = whole-if (has Masked seen) _ _ idle-whole (whole-if (has Linked seen) _ _ idle-whole (or-busy _ f))
 first-whole owner.Unmask c e seen f = whole-if (not (has Pending seen)) _ _ idle-whole (whole-if (has Linked seen) _ _ idle-whole (or-busy _ f))
 
-tries-whole : (c : Call) (e tries seen : ℕ) → isFree (c .owner) ≡ false → Whole (triesCas c e tries seen)
-unfolding triesCas
-tries-whole c e tries seen f = whole-if (not (has Linked seen)) _ _ (or-busy _ f) (whole-if (leb 4 tries) _ _ idle-whole (or-busy _ f))
+r4-whole : (c : Call) (e seen : ℕ) → isFree (c .owner) ≡ false → Whole (replyR4 c e seen)
+unfolding replyR4 afterFirstCas afterLaterCas
+r4-whole c e seen f =
+    whole-if (casTaken seen (c .word)) _ _ idle-whole
+    (whole-if (leb (c .tries) 1) _ _ (whole-if (not (has Linked seen)) _ _ (or-busy _ f) (or-busy _ f))
+    (whole-if (not (has Linked seen)) _ _ (or-busy _ f) (whole-if (leb 5 (c .tries)) _ _ (or-busy _ f) (or-busy _ f))))
 
 call-if : (b : Bool) (x y : Call) → orIdle x ≡ x → orIdle y ≡ y → orIdle (cond b x y) ≡ cond b x y
 call-if true x y a b = a
@@ -154,11 +157,13 @@ unfolding afterR2
 after-whole c q t f = call-if (eqb t 0) _ _ (or-busy _ f) (call-if (eqb t (c .port .0)) _ _ (or-busy _ f) (or-busy _ f))
 
 stage-whole : (s : Stage) (c : Call) (e : ℕ) (v : View) (seen : ℕ) → isFree (c .owner) ≡ false → Whole (stagedAt s c e v seen)
-unfolding replyFirst replyR2 replyR4 replyR5 replyR6
+unfolding replyFirst replyR2 replyR3 replySetBusy replyClearBusy replyR5 replyR6
 stage-whole First c e v seen f = first-whole (c .owner) c e seen f
 stage-whole R2 c e v seen f = whole-if (has Linked seen) _ _ idle-whole (after-whole c (queueAt (priority e)) (v .tail) f)
-stage-whole R3 c e v seen f = tries-whole c e 0 seen f
-stage-whole R4 c e v seen f = whole-if (casTaken seen (c .word)) _ _ idle-whole (tries-whole c e (c .tries) seen f)
+stage-whole R3 c e v seen f = whole-if (not (has Linked seen)) _ _ (or-busy _ f) (or-busy _ f)
+stage-whole R4 c e v seen f = r4-whole c e seen f
+stage-whole SetBusy c e v seen f = whole-if (not (has Linked seen)) _ _ (or-busy _ f) (or-busy _ f)
+stage-whole ClearBusy c e v seen f = whole-if (has Linked (c .word)) _ _ idle-whole (or-busy _ f)
 stage-whole R5 c e v seen f = or-busy _ f
 stage-whole R6 c e v seen f = whole-if (isReady (c .queue .0) seen) _ _ idle-whole idle-whole
 

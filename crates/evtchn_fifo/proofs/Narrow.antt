@@ -13,6 +13,7 @@ use Rattle.calls.specs.declared.types.Guest.{Guest}
 use Rattle.calls.specs.Records.{isPort}
 use Rattle.calls.specs.Hypervisor.{isOffset}
 use Rattle.calls.specs.Guest.{guestAnswered, withWords, maskOf, tellOf}
+use Rattle.calls.specs.ClearMask.{clearMaskStart}
 use Rattle.evtchn_fifo.specs.Numbers.{narrow}
 use Rattle.evtchn_fifo.specs.Claims.{NarrowNumbers}
 
@@ -81,6 +82,14 @@ module _ {n : ℕ} (wide : Width n) where
       rw (e, same-reach words p l)
   mask-by p words false h = rw (same-port p, h)
 
+  clear-by : (g : Guest) (p : ℕ) (b : Bool) → isPort n p ≡ b → clearMaskStart n g (portAt (narrow p)) ≡ clearMaskStart n g (portAt p)
+  unfolding clearMaskStart
+  clear-by g p true h =
+      let l = port-small p h in
+      let e : narrow p ≡ p = least p ∙ omega arith in
+      rw e
+  clear-by g p false h = rw (same-port p, h)
+
   pub narrow-numbers : NarrowNumbers n
   unfolding isOffset
   narrow-numbers = record {
@@ -90,5 +99,6 @@ module _ {n : ℕ} (wide : Width n) where
     offset = alike isOffset (λ v h. sym (rw (lt-leb v 4024 (omega arith)) (and-false (eqb (v % 8) 0))));
     words = same-reach;
     mask = λ p words. mask-by p words (isPort n p) refl;
+    clear-mask = λ g p. clear-by g p (isPort n p) refl;
     tell = tells;
   }

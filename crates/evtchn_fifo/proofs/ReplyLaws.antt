@@ -1,6 +1,6 @@
 -- What a stage's own writes come to: the bytes that the stage's move writes, and no others.
 -- Assumes nothing.
-use Prim.Native.Nat.{ℕ, zero, suc, _+_, _*_, _≤_, _<_}
+use Prim.Native.Nat.{ℕ, zero, suc, _*_, _≤_, _<_}
 use mathlib.Core.Path.{_≡_, refl, sym, ap, _∙_}
 use mathlib.Core.Bool.{Bool, true, false, cond, not, true≢false}
 use mathlib.Core.List.{List}
@@ -10,30 +10,30 @@ use native.Mathlib.Omega.{arith}
 use borrow.Author.Tests.{leb-true, leb-false, lt-ltb, le-ltb, not-true, not-false}
 use Rattle.word.specs.declared.Queue.{Queue}
 use Rattle.word.specs.declared.Port.{Port}
-use Rattle.word.specs.declared.Flag.the-variants.{Pending, Masked, Linked}
-use Rattle.word.specs.Word.{has, withLink, portAt, queueAt}
+use Rattle.word.specs.declared.Flag.the-variants.{Pending, Masked, Linked, Busy}
+use Rattle.word.specs.Word.{has, mask, portAt, queueAt}
 use Rattle.word.specs.Effect.{casTaken}
 use Rattle.word.specs.Ready.{readyMask, isReady}
 use Rattle.word.specs.Entry.{priority, lastQueue, everLinked, linkedEntry}
 use Rattle.calls.specs.declared.types.Place.the-variants.{Word, Ready}
-use Rattle.calls.specs.declared.types.Access.the-variants.{Or, Cas}
+use Rattle.calls.specs.declared.types.Access.the-variants.{Or}
 use Rattle.calls.specs.declared.types.Owner.{Owner}
 use Rattle.calls.specs.declared.types.Owner.the-variants as owner
 use Rattle.calls.specs.declared.types.Stage.{Stage}
-use Rattle.calls.specs.declared.types.Stage.the-variants.{First, R2, R3, R4, R5, R6}
+use Rattle.calls.specs.declared.types.Stage.the-variants.{First, R2, R3, SetBusy, R5, R6}
 use Rattle.calls.specs.declared.types.Call.{Call}
 use Rattle.calls.specs.declared.types.Answer.{Answer}
 use Rattle.calls.specs.declared.types.Answer.the-variants.{Done, NoEntry, NoCall}
 use Rattle.calls.specs.declared.hypervisor.stage.Move.{Move}
 use Rattle.calls.specs.Records.{callAt as calledAt}
-use Rattle.calls.specs.Records.{isFree, oneMore}
-use Rattle.calls.specs.Hypervisor.{ends, endsTailed, goesOn, named, due, dueFirst, staleQueue, replyR1, replyU1, replyFirst, replyFirstOf, afterR2, replyR2, triesCas, replyR4, replyR5, replyR6, staged, stagedAt}
+use Rattle.calls.specs.Records.{isFree}
+use Rattle.calls.specs.Hypervisor.{ends, endsTailed, goesOn, named, comparing, clearing, due, dueFirst, staleQueue, replyR1, replyU1, replyFirst, replyFirstOf, afterR2, replyR2, replyR3, afterFirstCas, afterLaterCas, replyR4, replySetBusy, replyClearBusy, replyR5, replyR6, staged, stagedAt}
 use Rattle.evtchn_fifo.specs.Numbers.{numberAt, putValue}
 use Rattle.evtchn_fifo.specs.Encoded.{EncodedNext, Wrote, wrote, carried, encodedAnswer, encodedAccess, tooShort}
 use Rattle.evtchn_fifo.specs.Ledger.{entries, entryIn, putEntry}
 use Rattle.evtchn_fifo.specs.DomainRecord.{domainSize, ownerCode, ownerOf, ownerAt, stageOf, callAt, viewAt, tailAt, tailAt, putNext, putCall, putTail, putEnd}
 use Rattle.evtchn_fifo.specs.Hypervisor.{nextAt, moveAt, moveBytes, movedBytes, replyBytes}
-use Rattle.evtchn_fifo.specs.InPlace.{entryOf, toR2, toR3, toR5, fromR2, underWay}
+use Rattle.evtchn_fifo.specs.InPlace.{entryOf, toR2, toR3, toR4, toClearBusy, toR5, fromR2, underWay}
 use Rattle.evtchn_fifo.proofs.NumberLaws.{put-same, value-other}
 use Rattle.evtchn_fifo.proofs.UnderWayLaws.{owner-is}
 use Rattle.evtchn_fifo.proofs.DomainLaws.{next-kept, call-apart}
@@ -63,7 +63,7 @@ owner-by false k e = let z : _≡_ {A = ℕ} 0 1 = cc in absurd (omega arith)
 
 owner-there : (r : List ℕ) → isFree (ownerAt r) ≡ false → ownerCode (ownerAt r) ≡ numberAt 3 r 72
 unfolding ownerAt
-owner-there r e = owner-by (ltb (numberAt 3 r 76) 6) (numberAt 3 r 72) e
+owner-there r e = owner-by (ltb (numberAt 3 r 76) 8) (numberAt 3 r 72) e
 
 -- its owner and its port are there
 pub under-way : (r : List ℕ) (c : Call) → ((j : ℕ) → getD r j 0 < 256) → isFree (callAt r .owner) ≡ false → putCall r (underWay (callAt r) c) ≡ putNext r c
@@ -80,10 +80,6 @@ pub entry-same : (t : List ℕ) (p : ℕ) → ((j : ℕ) → getD t j 0 < 256) �
 entry-same t p h = entry-by t p (ltb p (entries t)) refl h
 
 -- ---- moves, as bytes
-
--- the next cas of a call
-abbrev triesAgain : Call → ℕ → ℕ → Call
-triesAgain c tries seen = record { owner = c .owner; stage = R4; port = c .port; queue = c .queue; word = seen; tries = tries + 1; count = oneMore (c .count) }
 
 pub ends-move : (n : ℕ) (r : List ℕ) (e : ℕ) (a : Answer) (k : ℕ) → moveBytes n r (ends e a k) ≡ wrote (encodedAnswer a k) (putEnd r)
 unfolding moveBytes nextAt isFree putValue
@@ -111,9 +107,17 @@ pub r5-move : (n : ℕ) (r : List ℕ) (e : ℕ) (q : Queue) → isFree (callAt 
 unfolding due putValue
 r5-move n r e q f = on-move n r (goesOn e (named (callAt r) R5 q)) f
 
-pub r4-move : (n : ℕ) (r : List ℕ) (e tries seen : ℕ) → isFree (callAt r .owner) ≡ false → moveBytes n r (goesOn e (triesAgain (callAt r) tries seen)) ≡ wrote (encodedAccess (Cas (Word (portAt (tailAt r (callAt r .queue .0)))) seen (withLink n seen (callAt r .port .0)))) (putCall r (triesAgain (callAt r) tries seen))
+pub r4-move : (n : ℕ) (r : List ℕ) (e tries w : ℕ) → isFree (callAt r .owner) ≡ false → moveBytes n r (goesOn e (comparing (callAt r) tries w)) ≡ toR4 n r tries w
 unfolding due putValue
-r4-move n r e tries seen f = on-move n r (goesOn e (triesAgain (callAt r) tries seen)) f
+r4-move n r e tries w f = on-move n r (goesOn e (comparing (callAt r) tries w)) f
+
+pub set-busy-move : (n : ℕ) (r : List ℕ) (e : ℕ) → isFree (callAt r .owner) ≡ false → moveBytes n r (goesOn e (named (callAt r) SetBusy (callAt r .queue))) ≡ wrote (encodedAccess (Or (Word (portAt (tailAt r (callAt r .queue .0)))) (mask Busy))) (putCall r (named (callAt r) SetBusy (callAt r .queue)))
+unfolding due putValue
+set-busy-move n r e f = on-move n r (goesOn e (named (callAt r) SetBusy (callAt r .queue))) f
+
+pub clear-busy-move : (n : ℕ) (r : List ℕ) (e w : ℕ) → isFree (callAt r .owner) ≡ false → moveBytes n r (goesOn e (clearing (callAt r) w)) ≡ toClearBusy r w
+unfolding due putValue
+clear-busy-move n r e w f = on-move n r (goesOn e (clearing (callAt r) w)) f
 
 pub r6-move : (n : ℕ) (r : List ℕ) (e : ℕ) → isFree (callAt r .owner) ≡ false → moveBytes n r (replyR5 (callAt r) e) ≡ wrote (encodedAccess (Or Ready (readyMask (callAt r .queue .0)))) (putCall (putTail r (callAt r .queue .0) (callAt r .port .0)) (named (callAt r) R6 (callAt r .queue)))
 unfolding due replyR5
@@ -157,13 +161,24 @@ pub u1-entry : (c : Call) (e seen : ℕ) → replyU1 c e seen .entry ≡ e
 unfolding replyU1
 u1-entry c e seen = entry-if (not (has Pending seen)) _ _ e refl (entry-if (has Linked seen) _ _ e refl refl)
 
-pub tries-entry : (c : Call) (e tries seen : ℕ) → triesCas c e tries seen .entry ≡ e
-unfolding triesCas
-tries-entry c e tries seen = entry-if (not (has Linked seen)) _ _ e refl (entry-if (leb 4 tries) _ _ e refl refl)
+pub r3-entry : (c : Call) (e seen : ℕ) → replyR3 c e seen .entry ≡ e
+unfolding replyR3
+r3-entry c e seen = entry-if (not (has Linked seen)) _ _ e refl refl
 
 pub r4-entry : (c : Call) (e seen : ℕ) → replyR4 c e seen .entry ≡ e
-unfolding replyR4
-r4-entry c e seen = entry-if (casTaken seen (c .word)) _ _ e refl (tries-entry c e (c .tries) seen)
+unfolding replyR4 afterFirstCas afterLaterCas
+r4-entry c e seen =
+    entry-if (casTaken seen (c .word)) _ _ e refl
+    (entry-if (leb (c .tries) 1) _ _ e (entry-if (not (has Linked seen)) _ _ e refl refl)
+    (entry-if (not (has Linked seen)) _ _ e refl (entry-if (leb 5 (c .tries)) _ _ e refl refl)))
+
+pub set-busy-entry : (c : Call) (e seen : ℕ) → replySetBusy c e seen .entry ≡ e
+unfolding replySetBusy
+set-busy-entry c e seen = entry-if (not (has Linked seen)) _ _ e refl refl
+
+pub clear-busy-entry : (c : Call) (e : ℕ) → replyClearBusy c e .entry ≡ e
+unfolding replyClearBusy
+clear-busy-entry c e = entry-if (has Linked (c .word)) _ _ e refl refl
 
 pub r5-entry : (c : Call) (e : ℕ) → replyR5 c e .entry ≡ e
 unfolding replyR5

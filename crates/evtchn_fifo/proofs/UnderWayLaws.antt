@@ -33,8 +33,8 @@ unfolding isFree
 by-stage o true = owner-is o
 by-stage o false = refl
 
-pub under-way-is : (s o : ℕ) → not (isFree (cond (ltb s 6) (ownerOf o) owner.None)) ≡ cond (ltb s 6) (cond (ltb 0 o) (ltb o 5) false) false
-under-way-is s o = by-stage o (ltb s 6)
+pub under-way-is : (s o : ℕ) → not (isFree (cond (ltb s 8) (ownerOf o) owner.None)) ≡ cond (ltb s 8) (cond (ltb 0 o) (ltb o 5) false) false
+under-way-is s o = by-stage o (ltb s 8)
 
 -- ---- the port of a close
 
@@ -54,7 +54,7 @@ others-close-none (suc (suc (suc (suc (suc o))))) s p e = high-closes (suc (suc 
 
 -- nor does a stage but the first
 abbrev closingAt : ℕ → ℕ → ℕ → ℕ
-closingAt o s p = closingBy (cond (ltb s 6) (ownerOf o) owner.None) (stageOf s) p
+closingAt o s p = closingBy (cond (ltb s 8) (ownerOf o) owner.None) (stageOf s) p
 
 first-closes : (s p : ℕ) → closingAt 2 s p ≡ cond (eqb s 0) p 0
 unfolding ownerOf stageOf
@@ -64,7 +64,10 @@ first-closes (suc (suc zero)) p = refl
 first-closes (suc (suc (suc zero))) p = refl
 first-closes (suc (suc (suc (suc zero)))) p = refl
 first-closes (suc (suc (suc (suc (suc zero))))) p = refl
-first-closes (suc (suc (suc (suc (suc (suc s)))))) p = simp (le-ltb (suc (suc (suc (suc (suc (suc s)))))) 6 (omega arith), ne-eqb (suc (suc (suc (suc (suc (suc s)))))) 0 (λ e. omega arith))
+first-closes (suc (suc (suc (suc (suc (suc zero)))))) p = refl
+first-closes (suc (suc (suc (suc (suc (suc (suc zero))))))) p = refl
+first-closes (suc (suc (suc (suc (suc (suc (suc (suc s)))))))) p =
+    simp (le-ltb (suc (suc (suc (suc (suc (suc (suc (suc s)))))))) 8 (omega arith), ne-eqb (suc (suc (suc (suc (suc (suc (suc (suc s)))))))) 0 (λ e. omega arith))
 
 by-stages : (o : ℕ) (b : Bool) (s : Stage) (p : ℕ) → eqb o 2 ≡ false → closingBy (cond b (ownerOf o) owner.None) s p ≡ 0
 by-stages o true s p e = others-close-none o s p e
@@ -72,7 +75,7 @@ by-stages o false s p e = refl
 
 closing-at : (o s p : ℕ) (b : Bool) → eqb o 2 ≡ b → closingAt o s p ≡ cond b (cond (eqb s 0) p 0) 0
 closing-at o s p true e = rw (eqb-true o 2 e) (first-closes s p)
-closing-at o s p false e = by-stages o (ltb s 6) (stageOf s) p e
+closing-at o s p false e = by-stages o (ltb s 8) (stageOf s) p e
 
 -- as the code tests it, by the numbers o, s and p that it reads
 module _ (r : List ℕ) {o : ℕ} (long : ltb (length r) domainSize ≡ false) (owner : o ≡ numberAt 3 r 72) where

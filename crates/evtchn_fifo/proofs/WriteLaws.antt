@@ -10,10 +10,11 @@ use native.Mathlib.Omega.{arith}
 use Rattle.calls.specs.declared.types.Call.{Call}
 use Rattle.calls.specs.declared.types.Domain.{Domain}
 use Rattle.calls.specs.declared.types.GuestCall.{GuestCall}
+use Rattle.calls.specs.declared.types.ClearCall.{ClearCall}
 use Rattle.calls.specs.declared.types.Guest.{Guest}
 use Rattle.evtchn_fifo.specs.Numbers.{putNumber, putNumbers, putFour, putValues}
 use Rattle.evtchn_fifo.specs.DomainRecord.{ownerCode, stageCode, givenCode, putNext, putCall, putDomain}
-use Rattle.evtchn_fifo.specs.GuestRecord.{guestStageCode, putService, putGuest}
+use Rattle.evtchn_fifo.specs.GuestRecord.{guestStageCode, clearStageCode, putService, putClear, putGuest}
 
 pub four-numbers : (s : List ℕ) (i a b c d : ℕ) {s1 s2 s3 s4 : List ℕ} →
     s1 ≡ putNumber 3 s i a → s2 ≡ putNumber 3 s1 (i + 4) b → s3 ≡ putNumber 3 s2 (i + 8) c → s4 ≡ putNumber 3 s3 (i + 12) d →
@@ -85,8 +86,14 @@ pub service-numbers : (s : List ℕ) (c : GuestCall) {k : ℕ} {s1 s2 s3 s4 : Li
 unfolding putService
 service-numbers s c a e1 e2 e3 e4 = cc
 
-pub guest-numbers : (s : List ℕ) (g : Guest) {s1 s2 s3 s4 : List ℕ} →
-    s1 ≡ putValues 0 s (g .heads) → s2 ≡ putNumber 3 s1 64 (g .ready) → s3 ≡ putNumber 3 s2 68 (g .words) → s4 ≡ putService s3 (g .call) →
-    s4 ≡ putGuest s g
+pub clear-numbers : (s : List ℕ) (c : ClearCall) {k : ℕ} {s1 s2 s3 s4 : List ℕ} → k ≡ clearStageCode (c .stage) →
+    s1 ≡ putNumber 3 s 88 k → s2 ≡ putNumber 3 s1 92 (c .port .0) → s3 ≡ putNumber 3 s2 96 (c .word) → s4 ≡ putNumber 3 s3 100 (c .count) →
+    s4 ≡ putClear s c
+unfolding putClear
+clear-numbers s c a e1 e2 e3 e4 = cc
+
+pub guest-numbers : (s : List ℕ) (g : Guest) {s1 s2 s3 s4 s5 : List ℕ} →
+    s1 ≡ putValues 0 s (g .heads) → s2 ≡ putNumber 3 s1 64 (g .ready) → s3 ≡ putNumber 3 s2 68 (g .words) → s4 ≡ putService s3 (g .call) → s5 ≡ putClear s4 (g .clear) →
+    s5 ≡ putGuest s g
 unfolding putGuest
-guest-numbers s g e1 e2 e3 e4 = cc
+guest-numbers s g e1 e2 e3 e4 e5 = cc

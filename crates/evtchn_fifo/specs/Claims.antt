@@ -18,14 +18,16 @@ use Rattle.calls.specs.declared.types.Guest.{Guest}
 use Rattle.calls.specs.declared.types.GuestOutcome.{GuestOutcome}
 use Rattle.calls.specs.Records.{isPort, withCall, freshDomain, freshGuest}
 use Rattle.calls.specs.Hypervisor.{Turn, isOffset, initControl, expandArray, bindStart, closeStart, setPriority, raiseStart, unmaskStart, replyOf, dueOf}
-use Rattle.calls.specs.Guest.{serviceStart, serviceReply, guestDueOf, guestAnswered, withGuestCall, withWords, maskOf, tellOf}
+use Rattle.calls.specs.Guest.{serviceStart, guestAnswered, withGuestCall, withWords, maskOf, tellOf}
+use Rattle.calls.specs.ClearMask.{withClear, clearMaskStart, guestReply, guestDueOf}
 use Rattle.evtchn_fifo.specs.Numbers.{narrow}
 use Rattle.evtchn_fifo.specs.Encoded.{EncodedNext, Wrote, wrote, Carried, carried, encodedNext, tooShort}
 use Rattle.evtchn_fifo.specs.Ledger.{entries, ledgerAt, freshLedgerBytes}
 use Rattle.evtchn_fifo.specs.DomainRecord.{domainSize, domainAt, orIdle, putDomain}
-use Rattle.evtchn_fifo.specs.GuestRecord.{guestSize, guestAt, orGuestIdle, putGuest}
+use Rattle.evtchn_fifo.specs.GuestRecord.{guestSize, guestAt, orGuestIdle, orClearIdle, putGuest}
 use Rattle.evtchn_fifo.specs.Hypervisor.{PortCall, startsOf, onPort, initBytes, expandBytes, bindBytes, closeBytes, setPriorityBytes, raiseBytes, unmaskBytes, replyBytes, dueBytes, freshDomainBytes}
-use Rattle.evtchn_fifo.specs.Guest.{serviceBytes, serviceReplyBytes, serviceDueBytes, tellBytes, freshGuestBytes}
+use Rattle.evtchn_fifo.specs.Guest.{serviceBytes, tellBytes, freshGuestBytes}
+use Rattle.evtchn_fifo.specs.ClearMask.{clearMaskBytes, guestReplyBytes, guestDueBytes}
 
 -- ---- a call on a domain's record and its ledger
 
@@ -98,10 +100,11 @@ pub record DomainCalls (n : ℕ) : Type 0 where
   pub fresh-ledger : (t : List ℕ) → ledgerAt (freshLedgerBytes t .record-bytes) ≡ replicate (entries t) freshEntry
 
 pub record GuestCalls (n : ℕ) : Type 0 where
-  pub read-back : (r : List ℕ) (g : Guest) → guestSize ≤ length r → length (g .heads) ≡ 16 → guestAt (putGuest r g) ≡ withGuestCall g (orGuestIdle (g .call))
+  pub read-back : (r : List ℕ) (g : Guest) → guestSize ≤ length r → length (g .heads) ≡ 16 → guestAt (putGuest r g) ≡ withClear (withGuestCall g (orGuestIdle (g .call))) (orClearIdle (g .clear))
   pub service : IsGuestCall (λ r. serviceBytes n r) (λ g. serviceStart n g)
-  pub service-reply : (seen : ℕ) → IsGuestCall (λ r. serviceReplyBytes n r seen) (λ g. serviceReply n g seen)
-  pub service-due : (r : List ℕ) → guestSize ≤ length r → serviceDueBytes n r ≡ encodedNext (guestDueOf n (guestAt r))
+  pub clear-mask : (p : ℕ) → IsGuestCall (λ r. clearMaskBytes n r p) (λ g. clearMaskStart n g (portAt (narrow p)))
+  pub reply : (seen : ℕ) → IsGuestCall (λ r. guestReplyBytes n r seen) (λ g. guestReply n g seen)
+  pub due : (r : List ℕ) → guestSize ≤ length r → guestDueBytes n r ≡ encodedNext (guestDueOf n (guestAt r))
   pub tell : (words : ℕ) → IsGuestCall (λ r. tellBytes r words) (λ g. tellOf g (narrow words))
   pub fresh : (r : List ℕ) → guestSize ≤ length r → guestAt (freshGuestBytes r .record-bytes) ≡ freshGuest
   pub zeros : guestAt (replicate guestSize 0) ≡ freshGuest
@@ -115,6 +118,7 @@ pub record NarrowNumbers (n : ℕ) : Type 0 where
   -- a number of words, which nothing refuses, reaches as far as the one that stands for it, but for the index 2 ^ 32 - 1
   pub words : (words index : ℕ) → index < 0xFFFFFFFF → leb (narrow words) index ≡ leb words index
   pub mask : (p words : ℕ) → maskOf n (portAt (narrow p)) (narrow words) ≡ maskOf n (portAt p) words
+  pub clear-mask : (g : Guest) (p : ℕ) → clearMaskStart n g (portAt (narrow p)) ≡ clearMaskStart n g (portAt p)
   -- the larger of old and told
   pub tell : (g : Guest) (old words : ℕ) → tellOf (withWords g (narrow old)) (narrow words) ≡ guestAnswered (withWords g (narrow (max old words))) Done
 
@@ -127,15 +131,16 @@ KeepsFrom k f = (r t : List ℕ) → k ≤ f r t .next .code → f r t .next .co
 abbrev pub KeepsAloneFrom : ℕ → (List ℕ → Wrote) → Type 0
 KeepsAloneFrom k f = (r : List ℕ) → k ≤ f r .next .code → f r .next .code < 0x100 → f r ≡ wrote (f r .next) r
 
--- a start answers 0 or refuses; a reply's refusals are 14, 16 and 64, besides 7, which ends the bind; a service's reply refuses
--- with 16 and 64, besides 18, which ends the service
+-- a start answers 0 or refuses; a reply's refusals are 14, 16 and 64, besides 7, which ends the bind; a guest's reply refuses
+-- with 16 and 64, besides 18, which ends the service, and answers 0, 19, 20, 21 or 35 where a call of hers ends
 pub record Refusals (n : ℕ) : Type 0 where
   pub port-call : (call : PortCall) (p : Port) → KeepsFrom 1 (λ r t. onPort n (startsOf n call) r t p)
   pub init-control : (vcpu frame frames offset : ℕ) → KeepsAloneFrom 1 (λ r. initBytes n r vcpu frame frames offset)
   pub expand-array : (frame frames : ℕ) → KeepsAloneFrom 1 (λ r. expandBytes n r frame frames)
   pub reply : (seen : ℕ) → KeepsFrom 8 (λ r t. replyBytes n r t seen)
   pub service : KeepsAloneFrom 1 (λ r. serviceBytes n r)
-  pub service-reply : (seen : ℕ) (r : List ℕ) → serviceReplyBytes n r seen .next .code < 18 → serviceReplyBytes n r seen ≡ wrote (serviceReplyBytes n r seen .next) r
+  pub clear-mask : (p : ℕ) → KeepsAloneFrom 1 (λ r. clearMaskBytes n r p)
+  pub guest-reply : (seen : ℕ) (r : List ℕ) → 1 ≤ guestReplyBytes n r seen .next .code → guestReplyBytes n r seen .next .code < 18 → guestReplyBytes n r seen ≡ wrote (guestReplyBytes n r seen .next) r
 
 -- ---- bytes beyond a record, and beyond a ledger's last whole entry, stay
 
@@ -155,7 +160,8 @@ pub record BeyondStays (n : ℕ) : Type 0 where
   pub init-control : (vcpu frame frames offset : ℕ) (r : List ℕ) → Beyond domainSize r (initBytes n r vcpu frame frames offset .record-bytes)
   pub expand-array : (frame frames : ℕ) (r : List ℕ) → Beyond domainSize r (expandBytes n r frame frames .record-bytes)
   pub service : (r : List ℕ) → Beyond guestSize r (serviceBytes n r .record-bytes)
-  pub service-reply : (seen : ℕ) (r : List ℕ) → Beyond guestSize r (serviceReplyBytes n r seen .record-bytes)
+  pub clear-mask : (p : ℕ) (r : List ℕ) → Beyond guestSize r (clearMaskBytes n r p .record-bytes)
+  pub guest-reply : (seen : ℕ) (r : List ℕ) → Beyond guestSize r (guestReplyBytes n r seen .record-bytes)
   pub tell : (words : ℕ) (r : List ℕ) → Beyond guestSize r (tellBytes r words .record-bytes)
   pub fresh-domain : (r : List ℕ) → Beyond domainSize r (freshDomainBytes r .record-bytes)
   pub fresh-guest : (r : List ℕ) → Beyond guestSize r (freshGuestBytes r .record-bytes)

@@ -13,7 +13,7 @@ use Rattle.calls.specs.Records.{isFree, idleCall, closingPort}
 use Rattle.calls.specs.declared.types.Owner.{Owner}
 use Rattle.calls.specs.declared.types.Owner.the-variants as owner
 use Rattle.calls.specs.declared.types.Stage.{Stage}
-use Rattle.calls.specs.declared.types.Stage.the-variants.{First, R2, R3, R4, R5, R6}
+use Rattle.calls.specs.declared.types.Stage.the-variants.{First, R2, R3, R4, SetBusy, ClearBusy, R5, R6}
 use Rattle.calls.specs.declared.types.Call.{Call}
 use Rattle.calls.specs.declared.types.Domain.{Domain}
 use Rattle.calls.specs.declared.hypervisor.stage.View.{View}
@@ -25,7 +25,7 @@ domainSize = 100
 
 -- the number of this layout of both records, the ledger and the codes
 abbrev pub layoutNumber : ℕ
-layoutNumber = 1
+layoutNumber = 2
 
 -- ---- codes
 
@@ -51,6 +51,8 @@ stageCode R3 = 2
 stageCode R4 = 3
 stageCode R5 = 4
 stageCode R6 = 5
+stageCode SetBusy = 6
+stageCode ClearBusy = 7
 
 unfoldable pub stageOf : ℕ → Stage
 stageOf k =
@@ -59,7 +61,9 @@ stageOf k =
     (cond (eqb k 3) R4
     (cond (eqb k 4) R5
     (cond (eqb k 5) R6
-    First))))
+    (cond (eqb k 6) SetBusy
+    (cond (eqb k 7) ClearBusy
+    First))))))
 
 abbrev pub givenCode : Bool → ℕ
 givenCode true = 1
@@ -85,7 +89,7 @@ abbrev pub tailAt : List ℕ → ℕ → ℕ
 tailAt r q = valueAt 8 r q
 
 unfoldable pub ownerAt : List ℕ → Owner
-ownerAt r = cond (ltb (numberAt 3 r 76) 6) (ownerOf (numberAt 3 r 72)) owner.None
+ownerAt r = cond (ltb (numberAt 3 r 76) 8) (ownerOf (numberAt 3 r 72)) owner.None
 
 unfoldable pub callAt : List ℕ → Call
 callAt r = record { owner = ownerAt r; stage = stageOf (numberAt 3 r 76); port = portAt (numberAt 3 r 80); queue = queueAt (numberAt 3 r 84); word = numberAt 3 r 88; tries = numberAt 3 r 92; count = numberAt 3 r 96 }

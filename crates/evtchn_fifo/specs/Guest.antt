@@ -1,5 +1,5 @@
--- The guest's calls on bytes: r is a guest's record, n the number of link bits. Where r is too short, or document 01 refuses
--- with a number other than 18, it stays byte for byte.
+-- The guest's calls on bytes, but for clear_mask and her reply (ClearMask): r is a guest's record, n the number of link bits. Where
+-- r is too short, or document 01 refuses with a number other than 18, it stays byte for byte.
 -- Assumes nothing.
 use Prim.Native.Nat.{ℕ}
 use mathlib.Core.Bool.{cond, not}
@@ -14,11 +14,11 @@ use Rattle.calls.specs.declared.types.Next.the-variants as next
 use Rattle.calls.specs.declared.types.GuestCall.{GuestCall}
 use Rattle.calls.specs.declared.types.GuestOutcome.{GuestOutcome}
 use Rattle.calls.specs.declared.guest.GuestMove.{GuestMove}
-use Rattle.calls.specs.Records.{guestIdle, freshGuest}
+use Rattle.calls.specs.Records.{guestIdle, clearIdle, freshGuest}
 use Rattle.calls.specs.Guest.{isServing, guestStaged, serviceQueue, guestDue, serviceStart, maskOf, tellOf}
 use Rattle.evtchn_fifo.specs.Numbers.{putNumber, narrow}
 use Rattle.evtchn_fifo.specs.Encoded.{EncodedNext, Wrote, wrote, Freshened, freshened, encodedAnswer, encodedAccess, encodedNext, encodedMasking, tooShort}
-use Rattle.evtchn_fifo.specs.GuestRecord.{guestSize, headAt, readyAt, wordsAt, serviceAt, withoutHeads, putService, putGuestMove, putGuest}
+use Rattle.evtchn_fifo.specs.GuestRecord.{guestSize, headAt, readyAt, wordsAt, serviceAt, clearCallAt, withoutHeads, putService, putGuestMove, putGuest}
 
 -- the access that the service c waits for, or the answer with its count where c is none
 unfoldable pub serviceNextAt : ℕ → GuestCall → Answer → ℕ → EncodedNext
@@ -35,9 +35,9 @@ beganOf r o = beganBytes r (o .guest .call) (o .next)
 unfoldable pub serviceBytes : ℕ → List ℕ → Wrote
 serviceBytes n r =
     cond (ltb (length r) guestSize) (wrote tooShort r)
-    (beganOf r (serviceStart n (withoutHeads 0 (serviceAt r))))
+    (beganOf r (serviceStart n (withoutHeads 0 (serviceAt r) (clearCallAt r))))
 
--- its reply
+-- the service's reply
 abbrev pub guestMoveAt : ℕ → List ℕ → ℕ → GuestMove
 guestMoveAt n r seen = guestStaged n (serviceAt r) (readyAt r) (wordsAt r) (headAt r (serviceQueue (readyAt r) seen .0)) seen
 
@@ -49,13 +49,6 @@ servedBytes n r seen =
     cond (not (isServing (serviceAt r .stage))) (wrote (encodedAnswer NoCall 0) r)
     (guestMoveBytes n r (guestMoveAt n r seen))
 
-unfoldable pub serviceReplyBytes : ℕ → List ℕ → ℕ → Wrote
-serviceReplyBytes n r seen = cond (ltb (length r) guestSize) (wrote tooShort r) (servedBytes n r seen)
-
--- the access that is due; 16 where no service is under way
-unfoldable pub serviceDueBytes : ℕ → List ℕ → EncodedNext
-serviceDueBytes n r = cond (ltb (length r) guestSize) tooShort (serviceNextAt n (serviceAt r) NoCall 0)
-
 unfoldable pub maskBytes : ℕ → ℕ → ℕ → EncodedNext
 maskBytes n p words = encodedMasking (maskOf n (portAt (narrow p)) (narrow words))
 
@@ -66,7 +59,7 @@ toldBytes r o = wrote (encodedNext (o .next)) (putNumber 3 r 68 (o .guest .words
 unfoldable pub tellBytes : List ℕ → ℕ → Wrote
 tellBytes r words =
     cond (ltb (length r) guestSize) (wrote tooShort r)
-    (toldBytes r (tellOf (withoutHeads (wordsAt r) guestIdle) (narrow words)))
+    (toldBytes r (tellOf (withoutHeads (wordsAt r) guestIdle clearIdle) (narrow words)))
 
 unfoldable pub freshGuestBytes : List ℕ → Freshened
 freshGuestBytes r = cond (ltb (length r) guestSize) (freshened 64 r) (freshened 0 (putGuest r freshGuest))

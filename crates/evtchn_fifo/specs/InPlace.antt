@@ -5,15 +5,16 @@ use Prim.Native.Nat.{ℕ, _*_}
 use mathlib.Core.Bool.{cond}
 use mathlib.Core.List.{List}
 use lib.Dec.{eqb}
+use Rattle.word.specs.declared.Port.{Port}
 use Rattle.word.specs.declared.Queue.{Queue}
-use Rattle.word.specs.declared.Flag.the-variants.{Linked}
-use Rattle.word.specs.Word.{portAt, queueAt, mask}
+use Rattle.word.specs.declared.Flag.the-variants.{Linked, Busy}
+use Rattle.word.specs.Word.{portAt, queueAt, mask, allBut}
 use Rattle.calls.specs.declared.types.Place.the-variants.{Word, Head}
-use Rattle.calls.specs.declared.types.Access.the-variants.{Read, Store, Or}
+use Rattle.calls.specs.declared.types.Access.the-variants.{Read, Store, Or, And, Cas}
 use Rattle.calls.specs.declared.types.Owner.{Owner}
 use Rattle.calls.specs.declared.types.Stage.the-variants.{R2, R3, R5}
 use Rattle.calls.specs.declared.types.Call.{Call}
-use Rattle.calls.specs.Hypervisor.{beginLink, named}
+use Rattle.calls.specs.Hypervisor.{beginLink, named, comparing, clearing, linkingWord}
 use Rattle.evtchn_fifo.specs.Numbers.{numberAt, narrow}
 use Rattle.evtchn_fifo.specs.Encoded.{Wrote, wrote, Carried, encodedAccess}
 use Rattle.evtchn_fifo.specs.DomainRecord.{tailAt, callAt, putCall}
@@ -37,6 +38,16 @@ toR2 r = wrote (encodedAccess (Or (Word (callAt r .port)) (mask Linked))) (putCa
 
 abbrev pub toR3 : List ℕ → Queue → Wrote
 toR3 r q = wrote (encodedAccess (Read (Word (portAt (tailAt r (q .0)))))) (putCall r (named (callAt r) R3 q))
+
+-- at a cas of the tail's word; at the and that clears BUSY of it
+abbrev tailOf : List ℕ → Port
+tailOf r = portAt (tailAt r (callAt r .queue .0))
+
+abbrev pub toR4 : ℕ → List ℕ → ℕ → ℕ → Wrote
+toR4 n r tries w = wrote (encodedAccess (Cas (Word (tailOf r)) w (linkingWord n w (callAt r .port .0)))) (putCall r (comparing (callAt r) tries w))
+
+abbrev pub toClearBusy : List ℕ → ℕ → Wrote
+toClearBusy r w = wrote (encodedAccess (And (Word (tailOf r)) (allBut Busy))) (putCall r (clearing (callAt r) w))
 
 abbrev pub toR5 : List ℕ → Queue → Wrote
 toR5 r q = wrote (encodedAccess (Store (Head q) (callAt r .port .0))) (putCall r (named (callAt r) R5 q))

@@ -6,4 +6,5 @@ pub mod GuestRecord
 pub mod Hypervisor
 pub mod InPlace
 pub mod Guest
+pub mod ClearMask
 pub mod Claims

@@ -50,6 +50,8 @@ pub fn stage_code(stage: Stage) -> u32
         Stage::R4 => 3,
         Stage::R5 => 4,
         Stage::R6 => 5,
+        Stage::SetBusy => 6,
+        Stage::ClearBusy => 7,
     }
 }
 
@@ -63,6 +65,8 @@ pub fn stage_of(code: u32) -> Stage
         3 => Stage::R4,
         4 => Stage::R5,
         5 => Stage::R6,
+        6 => Stage::SetBusy,
+        7 => Stage::ClearBusy,
         _ => Stage::First,
     }
 }
@@ -112,7 +116,7 @@ pub(crate) fn owner_at(domain: &[u8]) -> Owner
     ensures { λ r. ⌜ r ≡ ownerAt (now (domain .entry)) ⌝ }
 {
     let stage = numbers::u32_at(domain, layout::STAGE);
-    let known = stage < 6;
+    let known = stage < 8;
     if known {
         let owner = numbers::u32_at(domain, layout::OWNER);
         return owner_of(owner);
@@ -126,7 +130,7 @@ pub(crate) fn is_under_way(domain: &[u8]) -> bool
     ensures { λ r. ⌜ r ≡ not (isFree (callAt (now (domain .entry)) .owner)) ⌝ }
 {
     let stage = numbers::u32_at(domain, layout::STAGE);
-    let known = stage < 6;
+    let known = stage < 8;
     if known {
         let owner = numbers::u32_at(domain, layout::OWNER);
         let some = 0 < owner;

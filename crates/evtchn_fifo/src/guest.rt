@@ -1,4 +1,4 @@
-// The guest's service with its reply, mask and tell, as C reaches them.
+// The guest's service with its reply, mask and tell. C reaches the reply through clear_mask, which comes first.
 ghost use mathlib.Core.Path.{_≡_};
 ghost use Prim.Native.Nat.{_≤_};
 ghost use lib.ListN.{length};
@@ -9,7 +9,7 @@ ghost use Rattle.calls.specs.declared.types.Answer.the-variants.{BadIndex};
 ghost use Rattle.calls.specs.Guest.{serviceQueue, takesIndex, replyG0, replyG2, replyG3, replyG4};
 ghost use Rattle.evtchn_fifo.specs.Numbers.{putNumber, putValue};
 ghost use Rattle.evtchn_fifo.specs.Encoded.{unpacked, wrote, freshened, encodedAnswer, encodedAccess};
-ghost use Rattle.evtchn_fifo.specs.Guest.{serviceNextAt, serviceBytes, guestMoveBytes, servedBytes, serviceReplyBytes, serviceDueBytes, maskBytes, tellBytes, freshGuestBytes};
+ghost use Rattle.evtchn_fifo.specs.Guest.{serviceNextAt, serviceBytes, guestMoveBytes, servedBytes, maskBytes, tellBytes, freshGuestBytes};
 use crate::encoded;
 use crate::encoded::PackedNext;
 use crate::guest_record;
@@ -58,6 +58,10 @@ pub extern "C" fn evtchn_fifo_service(guest: &mut [u8]) -> PackedNext
     let short = guest.len() < layout::GUEST_SIZE;
     if short {
         return encoded::too_short();
+    }
+    let clearing = guest_record::is_clearing_at(guest);
+    if clearing {
+        return encoded::encoded_answer(Answer::CallUnderWay, 0);
     }
     let call = guest_record::service_at(guest);
     let stage = call.stage;
@@ -212,7 +216,7 @@ fn reply_g4(guest: &mut [u8], call: GuestCall, seen: u32) -> PackedNext
 }
 
 // The reply of the service's stage; 16 where there is none.
-fn reply_staged(guest: &mut [u8], seen: u32) -> PackedNext
+pub(crate) fn reply_staged(guest: &mut [u8], seen: u32) -> PackedNext
     requires { ⌜ guestSize ≤ length (now guest) ⌝ }
     ensures { λ r. ⌜ wrote (unpacked r) (now (guest .exit)) ≡ servedBytes linkBits (now (guest .entry)) seen ⌝ }
 {
@@ -226,31 +230,6 @@ fn reply_staged(guest: &mut [u8], seen: u32) -> PackedNext
         GuestStage::G3 => reply_g3(guest, call, seen),
         GuestStage::G4 => reply_g4(guest, call, seen),
     }
-}
-
-// The reply to the access that was named last, with the word seen.
-#[no_mangle]
-pub extern "C" fn evtchn_fifo_service_reply(guest: &mut [u8], seen: u32) -> PackedNext
-    ensures { λ r. ⌜ wrote (unpacked r) (now (guest .exit)) ≡ serviceReplyBytes linkBits (now (guest .entry)) seen ⌝ }
-{
-    let long = layout::GUEST_SIZE <= guest.len();
-    if long {
-        return reply_staged(guest, seen);
-    }
-    encoded::too_short()
-}
-
-// The access that the service under way waits for; 16 where none is.
-#[no_mangle]
-pub extern "C" fn evtchn_fifo_service_due(guest: &[u8]) -> PackedNext
-    ensures { λ r. ⌜ unpacked r ≡ serviceDueBytes linkBits (now (guest .entry)) ⌝ }
-{
-    let short = guest.len() < layout::GUEST_SIZE;
-    if short {
-        return encoded::too_short();
-    }
-    let call = guest_record::service_at(guest);
-    service_next_at(call, Answer::NoCall, 0)
 }
 
 // A mask of a port by a number of words. With its access its answer is 0 and its count 1; it takes no reply.

@@ -25,7 +25,7 @@ pub const TRIES: usize = 92;
 
 pub const COUNT: usize = 96;
 
-pub const GUEST_SIZE: usize = 88;
+pub const GUEST_SIZE: usize = 104;
 
 pub const HEADS: usize = 0;
 
@@ -41,10 +41,18 @@ pub const GUEST_QUEUE: usize = 80;
 
 pub const GUEST_COUNT: usize = 84;
 
+pub const CLEAR_STAGE: usize = 88;
+
+pub const CLEAR_PORT: usize = 92;
+
+pub const CLEAR_WORD: usize = 96;
+
+pub const CLEAR_COUNT: usize = 100;
+
 // The number of this layout. It changes with any place, size or code.
 #[no_mangle]
 pub extern "C" fn evtchn_fifo_layout() -> u32
     ensures { λ r. ⌜ r ≡ layoutNumber ⌝ }
 {
-    1
+    2
 }

@@ -9,12 +9,12 @@ ghost use lib.Dec.{ltb};
 ghost use Rattle.word.specs.Word.{linkBits};
 ghost use Rattle.word.specs.Entry.{lastQueue};
 ghost use Rattle.calls.specs.Records.{isFree};
-ghost use Rattle.calls.specs.Hypervisor.{named, staleQueue, replyR1, replyU1, replyBind, replyClose, replyFirst, replyR2, triesCas, replyR4, replyR5, replyR6};
+ghost use Rattle.calls.specs.Hypervisor.{named, staleQueue, replyR1, replyU1, replyBind, replyClose, replyFirst, replyR2, replyR3, afterFirstCas, afterLaterCas, replyR4, replySetBusy, replyClearBusy, replyR5, replyR6, endsTailed};
 ghost use Rattle.evtchn_fifo.specs.DomainRecord.{domainSize, callAt, viewAt, tailAt, putCall, putTail, putEnd};
 ghost use Rattle.evtchn_fifo.specs.Encoded.{unpacked, wrote, carried, encodedAnswer, encodedAccess};
 ghost use Rattle.evtchn_fifo.specs.Ledger.{entries};
 ghost use Rattle.evtchn_fifo.specs.Hypervisor.{moveBytes, movedBytes, moveAt};
-ghost use Rattle.evtchn_fifo.specs.InPlace.{entryOf, toR2, toR5, fromR2, underWay};
+ghost use Rattle.evtchn_fifo.specs.InPlace.{entryOf, toR2, toR4, toClearBusy, toR5, fromR2, underWay};
 use crate::domain_record;
 use crate::encoded;
 use crate::encoded::PackedNext;
@@ -22,7 +22,6 @@ use crate::layout;
 use crate::ledger;
 use crate::numbers;
 use calls::hypervisor::stage;
-use calls::records;
 use calls::types::Access;
 use calls::types::Answer;
 use calls::types::Call;
@@ -215,10 +214,67 @@ fn from_r2(domain: &mut [u8], queue: Queue) -> PackedNext
     goes_on(domain, next, Access::Read(Place::Word(Port(tail))))
 }
 
-// R3 and R4: what follows a word seen of the tail, after so many cas.
-fn tries_cas(domain: &mut [u8], tries: u32, seen: u32) -> PackedNext
+// A cas of the tail's word is named; tries counts the cas named, with this one.
+fn to_r4(domain: &mut [u8], tries: u32, word: u32) -> PackedNext
     requires { ⌜ (domainSize ≤ length (now domain)) × (isFree (callAt (now domain) .owner) ≡ false) ⌝ }
-    ensures { λ r. ⌜ ((e : ℕ) → wrote (unpacked r) (now (domain .exit)) ≡ moveBytes linkBits (now (domain .entry)) (triesCas (callAt (now (domain .entry))) e tries seen)) ⌝ }
+    ensures { λ r. ⌜ wrote (unpacked r) (now (domain .exit)) ≡ toR4 linkBits (now (domain .entry)) tries word ⌝ }
+{
+    let call = domain_record::call_at(domain);
+    let queue = call.queue;
+    let port = call.port;
+    let next = stage::comparing(call, tries, word);
+    let tail = numbers::value_at(domain, layout::TAILS, queue);
+    let new = stage::linking_word(word, port);
+    goes_on(
+        domain,
+        next,
+        Access::Cas(Place::Word(Port(tail)), word, new),
+    )
+}
+
+// The and that clears BUSY of the tail's word is named; word is the latest word seen.
+fn to_clear_busy(domain: &mut [u8], word: u32) -> PackedNext
+    requires { ⌜ (domainSize ≤ length (now domain)) × (isFree (callAt (now domain) .owner) ≡ false) ⌝ }
+    ensures { λ r. ⌜ wrote (unpacked r) (now (domain .exit)) ≡ toClearBusy (now (domain .entry)) word ⌝ }
+{
+    let call = domain_record::call_at(domain);
+    let queue = call.queue;
+    let next = stage::clearing(call, word);
+    let tail = numbers::value_at(domain, layout::TAILS, queue);
+    let operand = word::event::all_but(Flag::Busy);
+    goes_on(domain, next, Access::And(Place::Word(Port(tail)), operand))
+}
+
+// The call ends, and its port is its queue's tail.
+fn ends_tailed(domain: &mut [u8], answer: Answer) -> PackedNext
+    requires { ⌜ domainSize ≤ length (now domain) ⌝ }
+    ensures { λ r. ⌜ ((e : ℕ) → wrote (unpacked r) (now (domain .exit)) ≡ moveBytes linkBits (now (domain .entry)) (endsTailed e (callAt (now (domain .entry))) answer)) ⌝ }
+{
+    let call = domain_record::call_at(domain);
+    let queue = call.queue;
+    let port = call.port;
+    numbers::put_value(domain, layout::TAILS, queue, port.0);
+    ends(domain, answer, call.count)
+}
+
+// R3: a word without LINKED goes on at R5; else the first cas, of that very word.
+fn reply_r3(domain: &mut [u8], seen: u32) -> PackedNext
+    requires { ⌜ (domainSize ≤ length (now domain)) × (isFree (callAt (now domain) .owner) ≡ false) ⌝ }
+    ensures { λ r. ⌜ ((e : ℕ) → wrote (unpacked r) (now (domain .exit)) ≡ moveBytes linkBits (now (domain .entry)) (replyR3 (callAt (now (domain .entry))) e seen)) ⌝ }
+{
+    let unlinked = !word::event::has(seen, Flag::Linked);
+    if unlinked {
+        let call = domain_record::call_at(domain);
+        let queue = call.queue;
+        return to_r5(domain, queue);
+    }
+    to_r4(domain, 1, seen)
+}
+
+// R4's first cas is not taken: R5 where the word seen lacks LINKED, else BUSY is set.
+fn after_first_cas(domain: &mut [u8], seen: u32) -> PackedNext
+    requires { ⌜ (domainSize ≤ length (now domain)) × (isFree (callAt (now domain) .owner) ≡ false) ⌝ }
+    ensures { λ r. ⌜ ((e : ℕ) → wrote (unpacked r) (now (domain .exit)) ≡ moveBytes linkBits (now (domain .entry)) (afterFirstCas (callAt (now (domain .entry))) e seen)) ⌝ }
 {
     let call = domain_record::call_at(domain);
     let queue = call.queue;
@@ -226,30 +282,27 @@ fn tries_cas(domain: &mut [u8], tries: u32, seen: u32) -> PackedNext
     if unlinked {
         return to_r5(domain, queue);
     }
-    let port = call.port;
-    let last = 4 <= tries;
-    if last {
-        numbers::put_value(domain, layout::TAILS, queue, port.0);
-        return ends(domain, Answer::LinkAbandoned, call.count);
-    }
-    let count = records::one_more(call.count);
-    let owner = call.owner;
-    let next = Call {
-        owner: owner,
-        stage: Stage::R4,
-        port: port,
-        queue: queue,
-        word: seen,
-        tries: tries + 1,
-        count: count,
-    };
+    let next = stage::named(call, Stage::SetBusy, queue);
     let tail = numbers::value_at(domain, layout::TAILS, queue);
-    let new = word::event::with_link(seen, port);
-    goes_on(
-        domain,
-        next,
-        Access::Cas(Place::Word(Port(tail)), seen, new),
-    )
+    let operand = word::event::mask(Flag::Busy);
+    goes_on(domain, next, Access::Or(Place::Word(Port(tail)), operand))
+}
+
+// A later one is not taken: BUSY is cleared where the word seen lacks LINKED and after the fifth cas; else another cas.
+fn after_later_cas(domain: &mut [u8], seen: u32) -> PackedNext
+    requires { ⌜ (domainSize ≤ length (now domain)) × (isFree (callAt (now domain) .owner) ≡ false) ⌝ }
+    ensures { λ r. ⌜ ((e : ℕ) → wrote (unpacked r) (now (domain .exit)) ≡ moveBytes linkBits (now (domain .entry)) (afterLaterCas (callAt (now (domain .entry))) e seen)) ⌝ }
+{
+    let call = domain_record::call_at(domain);
+    let unlinked = !word::event::has(seen, Flag::Linked);
+    if unlinked {
+        return to_clear_busy(domain, seen);
+    }
+    let last = 5 <= call.tries;
+    if last {
+        return to_clear_busy(domain, seen);
+    }
+    to_r4(domain, call.tries + 1, seen)
 }
 
 // R4's cas: taken ends the call.
@@ -260,12 +313,41 @@ fn reply_r4(domain: &mut [u8], seen: u32) -> PackedNext
     let call = domain_record::call_at(domain);
     let taken = word::effect::cas_taken(seen, call.word);
     if taken {
-        let queue = call.queue;
-        let port = call.port;
-        numbers::put_value(domain, layout::TAILS, queue, port.0);
-        return ends(domain, Answer::Done, call.count);
+        return ends_tailed(domain, Answer::Done);
     }
-    tries_cas(domain, call.tries, seen)
+    let first = call.tries <= 1;
+    if first {
+        return after_first_cas(domain, seen);
+    }
+    after_later_cas(domain, seen)
+}
+
+// BUSY is set: the second cas compares with the word seen and BUSY.
+fn reply_set_busy(domain: &mut [u8], seen: u32) -> PackedNext
+    requires { ⌜ (domainSize ≤ length (now domain)) × (isFree (callAt (now domain) .owner) ≡ false) ⌝ }
+    ensures { λ r. ⌜ ((e : ℕ) → wrote (unpacked r) (now (domain .exit)) ≡ moveBytes linkBits (now (domain .entry)) (replySetBusy (callAt (now (domain .entry))) e seen)) ⌝ }
+{
+    let unlinked = !word::event::has(seen, Flag::Linked);
+    if unlinked {
+        return to_clear_busy(domain, seen);
+    }
+    let operand = word::event::mask(Flag::Busy);
+    let standing = word::effect::after_or(seen, operand);
+    to_r4(domain, 2, standing)
+}
+
+// BUSY is cleared: R5 where the latest word seen lacks LINKED; else the link is abandoned.
+fn reply_clear_busy(domain: &mut [u8]) -> PackedNext
+    requires { ⌜ (domainSize ≤ length (now domain)) × (isFree (callAt (now domain) .owner) ≡ false) ⌝ }
+    ensures { λ r. ⌜ ((e : ℕ) → wrote (unpacked r) (now (domain .exit)) ≡ moveBytes linkBits (now (domain .entry)) (replyClearBusy (callAt (now (domain .entry))) e)) ⌝ }
+{
+    let call = domain_record::call_at(domain);
+    let linked = word::event::has(call.word, Flag::Linked);
+    if linked {
+        return ends_tailed(domain, Answer::LinkAbandoned);
+    }
+    let queue = call.queue;
+    to_r5(domain, queue)
 }
 
 // R5: the port is its queue's tail, and R6 follows.
@@ -306,8 +388,10 @@ pub(crate) fn reply_staged(domain: &mut [u8], ledger: &mut [u8], seen: u32) -> P
     match stage {
         Stage::First => reply_first(domain, ledger, seen),
         Stage::R2 => reply_r2(domain, ledger, seen),
-        Stage::R3 => tries_cas(domain, 0, seen),
+        Stage::R3 => reply_r3(domain, seen),
         Stage::R4 => reply_r4(domain, seen),
+        Stage::SetBusy => reply_set_busy(domain, seen),
+        Stage::ClearBusy => reply_clear_busy(domain),
         Stage::R5 => reply_r5(domain),
         Stage::R6 => reply_r6(domain, seen),
     }

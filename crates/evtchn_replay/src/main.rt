@@ -75,7 +75,7 @@ fn turns_left(turns: u64, bytes: usize, stop: u32) -> u64
 // Plays what the descriptor gives, up to its end or to the first line that does not agree, and prints the report.
 fn play(fd: i32, ledger: &mut [u8], words: &mut [u32], shown: bool) {
     let mut domain = [0u8; 100];
-    let mut guest = [0u8; 88];
+    let mut guest = [0u8; 104];
     let mut block = [0u32; 18];
     let mut line = [0u8; 64];
     let mut due = [0u8; 64];

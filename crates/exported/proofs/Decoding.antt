@@ -12,7 +12,7 @@ use Rattle.calls.specs.declared.types.Place.the-variants.{Word, Ready, Head}
 use Rattle.calls.specs.declared.types.Access.{Access}
 use Rattle.calls.specs.declared.types.Access.the-variants.{Read, Store, Or, And, Swap, Cas}
 use Rattle.calls.specs.declared.types.Answer.{Answer}
-use Rattle.calls.specs.declared.types.Answer.the-variants.{Done, LinkBits, UpcallWanted, LinkAbandoned, BadPort, NotBound, AlreadyBound, OutsideArray, StillLinked, BadPriority, AlreadyGiven, NotGiven, BadFrame, BadOffset, TooManyPages, NoEntry, CallUnderWay, NoCall, BadVcpu, BadIndex, HandedOver, NothingReady, Taken}
+use Rattle.calls.specs.declared.types.Answer.the-variants.{Done, LinkBits, UpcallWanted, LinkAbandoned, BadPort, NotBound, AlreadyBound, OutsideArray, StillLinked, BadPriority, AlreadyGiven, NotGiven, BadFrame, BadOffset, TooManyPages, NoEntry, CallUnderWay, NoCall, BadVcpu, BadIndex, HandedOver, NothingReady, Taken, CallUnmask}
 use Rattle.calls.specs.declared.types.Next.the-variants as next
 use Rattle.calls.specs.Answers.{codeOf}
 use Rattle.calls.proofs.Cases.{same-access}
@@ -70,6 +70,7 @@ answer-back BadIndex count h = refl
 answer-back (HandedOver port) count h = refl
 answer-back NothingReady count h = refl
 answer-back (Taken port) count h = refl
+answer-back CallUnmask count h = refl
 
 pub decodes-encoded : DecodesEncoded
 decodes-encoded = record {

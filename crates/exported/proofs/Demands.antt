@@ -16,19 +16,20 @@ use Rattle.calls.specs.declared.types.Access.{Access}
 use Rattle.calls.specs.declared.types.Access.the-variants.{Or}
 use Rattle.calls.specs.declared.types.Next.the-variants as next
 use Rattle.calls.specs.declared.types.Masking.{Masking}
+use Rattle.calls.specs.declared.types.Guest.{Guest}
 use Rattle.calls.specs.Answers.{codeOf}
 use Rattle.calls.specs.Records.{isPort}
 use Rattle.calls.specs.Guest.{maskOf}
 use Rattle.calls.specs.Claims as acts
-use Rattle.calls.specs.Claims.{GuestAct, Serves, ServiceReplies, Tells, isGuestReply, hypervisorSide}
+use Rattle.calls.specs.Claims.{GuestAct, Serves, ClearsMask, GuestReplies, Tells, isGuestReply, isServices, isClears, hypervisorSide}
 use Rattle.calls.proofs.Cases.{choose, no-access, same-access}
 use Rattle.calls.proofs.HypervisorClaims.{names-due}
 use Rattle.calls.proofs.GuestClaims.{guest-names-due}
 use Rattle.machine.specs.Memory.{placeOf}
 use Rattle.machine.specs.Exec.{World, Stepped, execAll}
-use Rattle.claims.specs.Reach.{Inside, MaskInside, arrayWords, callLimit, serviceLimit}
+use Rattle.claims.specs.Reach.{Inside, MaskInside, arrayWords, callLimit, serviceLimit, clearLimit}
 use Rattle.claims.proofs.HypervisorReach.{calls-bounded}
-use Rattle.claims.proofs.GuestReach.{services-bounded, masks-inside}
+use Rattle.claims.proofs.GuestReach.{services-bounded, clears-bounded, masks-inside}
 use Rattle.interleaving.specs.Fresh.{freshWorld}
 use Rattle.interleaving.specs.Claim.{Claim}
 use Rattle.interleaving.specs.Demand3 as records
@@ -40,7 +41,7 @@ use Rattle.evtchn_fifo.specs.Encoded.{encodedMasking, encodedAnswer}
 use Rattle.evtchn_fifo.specs.Ledger.{entries}
 use Rattle.evtchn_fifo.specs.Numbers.{narrow, putNumber, putNumbers}
 use Rattle.evtchn_fifo.specs.DomainRecord.{domainSize, domainAt, pagesAt, putNext, putCall, putDomain}
-use Rattle.evtchn_fifo.specs.GuestRecord.{guestSize, guestAt, wordsAt, putService, putGuest}
+use Rattle.evtchn_fifo.specs.GuestRecord.{guestSize, guestAt, wordsAt, putService, putClear, putGuest}
 use Rattle.evtchn_fifo.specs.Hypervisor.{freshDomainBytes}
 use Rattle.evtchn_fifo.specs.Guest.{maskBytes, freshGuestBytes}
 use Rattle.evtchn_fifo.specs.Claims.{Meant, MeantGuest}
@@ -50,9 +51,9 @@ use Rattle.evtchn_fifo.proofs.Narrow.{narrow-numbers}
 use Rattle.evtchn_fifo.proofs.BeyondBytes.{beyond-stays}
 use Rattle.exported.specs.Decoded.{decodedNext, decodedAnswer}
 use Rattle.exported.specs.Run.{worldOf, freshBytes, narrowStep}
-use Rattle.exported.specs.Demands.{Request, Starts, Replies, isReply, domainSide, guestSide, Demand1, ResultsAreDue, Demand3, ZerosAreFresh, ExampleOfBytes}
+use Rattle.exported.specs.Demands.{Request, Starts, Replies, isReply, domainSide, guestSide, clearSide, Demand1, ResultsAreDue, Demand3, ZerosAreFresh, ExampleOfBytes}
 use Rattle.exported.proofs.Decoding.{access-back}
-use Rattle.exported.proofs.ReadBack.{turn-back, due-back, guest-turn-back, service-due-back}
+use Rattle.exported.proofs.ReadBack.{turn-back, due-back, guest-turn-back, guest-due-back}
 use Rattle.exported.proofs.Meanings.{actOf, guestActOf, request-means, guest-means, request-length, guest-length}
 use Rattle.exported.proofs.Runs.{runs-are-steps}
 use Rattle.exported.proofs.Simulation.{Simulates, named-is-due, bounded-from}
@@ -70,6 +71,7 @@ domain-simulates {n} some = record {
   after = λ r f q. ap (λ (x : Meant). x .domain) (request-means n r f q);
   gives = λ r f q. ap (λ (x : Meant). decodedNext (x .next)) (request-means n r f q) ∙ turn-back n some (domainAt r) (actOf q);
   replies = is-reply;
+  own = λ r q. refl;
   due = λ r f. ap decodedNext (domain-calls n .due r f) ∙ due-back n (domainAt r);
   underWay = λ r. refl;
   count = λ r. refl;
@@ -78,8 +80,21 @@ domain-simulates {n} some = record {
 
 is-guest-reply : (act : GuestAct) → isGuestReply act ≡ isGuestReply (guestActOf act)
 is-guest-reply Serves = refl
-is-guest-reply (ServiceReplies seen) = refl
+is-guest-reply (ClearsMask p) = refl
+is-guest-reply (GuestReplies seen) = refl
 is-guest-reply (Tells words) = refl
+
+is-services : (g : Guest) (act : GuestAct) → isServices g act ≡ isServices g (guestActOf act)
+is-services g Serves = refl
+is-services g (ClearsMask p) = refl
+is-services g (GuestReplies seen) = refl
+is-services g (Tells words) = refl
+
+is-clears : (g : Guest) (act : GuestAct) → isClears g act ≡ isClears g (guestActOf act)
+is-clears g Serves = refl
+is-clears g (ClearsMask p) = refl
+is-clears g (GuestReplies seen) = refl
+is-clears g (Tells words) = refl
 
 guest-simulates : (n : ℕ) → Simulates (guestSide n) (acts.guestSide n) wordsAt (λ g. g .words) (λ r. guestSize ≤ length r) guestAt guestActOf
 unfolding guestAt
@@ -88,7 +103,22 @@ guest-simulates n = record {
   after = λ r f act. ap (λ (x : MeantGuest). x .guest) (guest-means n r f act);
   gives = λ r f act. ap (λ (x : MeantGuest). decodedNext (x .next)) (guest-means n r f act) ∙ guest-turn-back n (guestAt r) (guestActOf act);
   replies = is-guest-reply;
-  due = λ r f. ap decodedNext (guest-calls n .service-due r f) ∙ service-due-back n (guestAt r);
+  own = λ r act. is-services (guestAt r) act;
+  due = λ r f. ap decodedNext (guest-calls n .due r f) ∙ guest-due-back n (guestAt r);
+  underWay = λ r. refl;
+  count = λ r. refl;
+  words = λ r. refl;
+}
+
+clear-simulates : (n : ℕ) → Simulates (clearSide n) (acts.clearSide n) wordsAt (λ g. g .words) (λ r. guestSize ≤ length r) guestAt guestActOf
+unfolding guestAt
+clear-simulates n = record {
+  fits = guest-simulates n .fits;
+  after = guest-simulates n .after;
+  gives = guest-simulates n .gives;
+  replies = is-guest-reply;
+  own = λ r act. is-clears (guestAt r) act;
+  due = guest-simulates n .due;
   underWay = λ r. refl;
   count = λ r. refl;
   words = λ r. refl;
@@ -123,6 +153,7 @@ module _ {n : ℕ} (wide : Width n) where
   demand1-bytes = record {
     calls = λ r h. bounded-from (domainSide n) (hypervisorSide n) _ arrayWords (domain-simulates some) callLimit (freshDomainBytes r .record-bytes) (fresh-length r h) (rw (domain-calls n .fresh r h) (calls-bounded n));
     services = λ r h. bounded-from (guestSide n) (acts.guestSide n) wordsAt _ (guest-simulates n) serviceLimit (freshGuestBytes r .record-bytes) (fresh-guest-length r h) (rw (guest-calls n .fresh r h) (services-bounded n));
+    clears = λ r h. bounded-from (clearSide n) (acts.clearSide n) wordsAt _ (clear-simulates n) clearLimit (freshGuestBytes r .record-bytes) (fresh-guest-length r h) (rw (guest-calls n .fresh r h) (clears-bounded n));
     masks = mask-inside;
   }
 
@@ -145,7 +176,7 @@ module _ {n : ℕ} (wide : Width n) where
       (demand3 wide lent (entries t) (map narrowStep steps) enough rules)
 
 pub zeros-are-fresh : ZerosAreFresh
-unfolding freshDomainBytes freshGuestBytes putDomain putCall putNext putGuest putService putNumber putNumbers
+unfolding freshDomainBytes freshGuestBytes putDomain putCall putNext putGuest putService putClear putNumber putNumbers
 zeros-are-fresh = record { domain = refl; guest = refl }
 
 pub example-of-bytes : ExampleOfBytes

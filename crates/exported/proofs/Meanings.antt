@@ -7,7 +7,7 @@ use lib.ListN.{length}
 use Rattle.word.specs.Word.{portAt}
 use Rattle.word.specs.Entry.{priorityAt}
 use Rattle.calls.specs.Claims as acts
-use Rattle.calls.specs.Claims.{Act, turnOf, GuestAct, Serves, ServiceReplies, Tells, guestTurnOf}
+use Rattle.calls.specs.Claims.{Act, turnOf, GuestAct, Serves, ClearsMask, GuestReplies, Tells, guestTurnOf}
 use Rattle.machine.specs.declared.types.Start.{Start}
 use Rattle.machine.specs.declared.types.Start.the-variants.{InitControl, ExpandArray, Bind, Close, SetPriority, Raise, Unmask}
 use Rattle.evtchn_fifo.specs.Numbers.{narrow}
@@ -40,7 +40,8 @@ actOf (Replies seen t) = acts.Replies seen (ledgerAt t)
 
 abbrev pub guestActOf : GuestAct → GuestAct
 guestActOf Serves = Serves
-guestActOf (ServiceReplies seen) = ServiceReplies seen
+guestActOf (ClearsMask p) = ClearsMask (portAt (narrow (p .0)))
+guestActOf (GuestReplies seen) = GuestReplies seen
 guestActOf (Tells words) = Tells (narrow words)
 
 -- ---- what they mean
@@ -66,7 +67,8 @@ module _ (n : ℕ) (r : List ℕ) (long : domainSize ≤ length r) where
 
 pub guest-means : (n : ℕ) (r : List ℕ) → guestSize ≤ length r → (act : GuestAct) → meantGuest (wroteBy n r act) ≡ toldGuest (guestTurnOf n (guestAt r) (guestActOf act))
 guest-means n r long Serves = guest-calls n .service .means r long
-guest-means n r long (ServiceReplies seen) = guest-calls n .service-reply seen .means r long
+guest-means n r long (ClearsMask p) = guest-calls n .clear-mask (p .0) .means r long
+guest-means n r long (GuestReplies seen) = guest-calls n .reply seen .means r long
 guest-means n r long (Tells words) = guest-calls n .tell words .means r long
 
 -- ---- the length of a record stays
@@ -91,5 +93,6 @@ module _ (n : ℕ) (r : List ℕ) where
 
   pub guest-length : (act : GuestAct) → length (wroteBy n r act .record-bytes) ≡ length r
   guest-length Serves = beyond-stays n .service r .count
-  guest-length (ServiceReplies seen) = beyond-stays n .service-reply seen r .count
+  guest-length (ClearsMask p) = beyond-stays n .clear-mask (p .0) r .count
+  guest-length (GuestReplies seen) = beyond-stays n .guest-reply seen r .count
   guest-length (Tells words) = beyond-stays n .tell words r .count

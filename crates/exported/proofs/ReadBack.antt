@@ -9,11 +9,13 @@ use lib.Dec.{eqb, ltb, leb}
 use Rattle.word.specs.declared.Port.{Port}
 use Rattle.word.specs.declared.Queue.{Queue}
 use Rattle.word.specs.declared.Priority.{Priority}
-use Rattle.word.specs.declared.Flag.the-variants.{Pending, Masked, Linked}
+use Rattle.word.specs.declared.Flag.the-variants.{Pending, Masked, Linked, Busy}
 use Rattle.word.specs.Word.{has, link}
 use Rattle.word.specs.Effect.{casTaken}
 use Rattle.word.specs.Ready.{isReady, merged}
 use Rattle.word.specs.Entry.{bound}
+use Rattle.calls.specs.declared.types.Place.the-variants.{Word}
+use Rattle.calls.specs.declared.types.Access.the-variants.{Read}
 use Rattle.calls.specs.declared.types.Answer.{Answer}
 use Rattle.calls.specs.declared.types.Answer.the-variants.{Done, LinkBits, NoCall}
 use Rattle.calls.specs.declared.types.Next.{Next}
@@ -21,11 +23,14 @@ use Rattle.calls.specs.declared.types.Next.the-variants as next
 use Rattle.calls.specs.declared.types.Owner.{Owner}
 use Rattle.calls.specs.declared.types.Owner.the-variants as owner
 use Rattle.calls.specs.declared.types.Stage.{Stage}
-use Rattle.calls.specs.declared.types.Stage.the-variants.{First, R2, R3, R4, R5, R6}
+use Rattle.calls.specs.declared.types.Stage.the-variants.{First, R2, R3, R4, SetBusy, ClearBusy, R5, R6}
 use Rattle.calls.specs.declared.types.Call.{Call}
 use Rattle.calls.specs.declared.types.Domain.{Domain}
 use Rattle.calls.specs.declared.types.GuestStage.{GuestStage}
 use Rattle.calls.specs.declared.types.GuestStage.the-variants.{None, G0, G1, G2, G3, G4}
+use Rattle.calls.specs.declared.types.ClearStage.{ClearStage}
+use Rattle.calls.specs.declared.types.ClearStage.the-variants as clearStage
+use Rattle.calls.specs.declared.types.ClearCall.{ClearCall}
 use Rattle.calls.specs.declared.types.GuestCall.{GuestCall}
 use Rattle.calls.specs.declared.types.Guest.{Guest}
 use Rattle.calls.specs.declared.types.GuestOutcome.{GuestOutcome}
@@ -34,6 +39,7 @@ use Rattle.calls.specs.declared.records.Lookup.the-variants.{Found, Missing}
 use Rattle.calls.specs.declared.hypervisor.stage.View.{View}
 use Rattle.calls.specs.declared.hypervisor.stage.Move.{Move}
 use Rattle.calls.specs.declared.guest.GuestMove.{GuestMove}
+use Rattle.calls.specs.declared.clear_mask.ClearMove.{ClearMove}
 use Rattle.calls.specs.declared.hypervisor.start.Acceptance.{Acceptance}
 use Rattle.calls.specs.declared.hypervisor.start.Acceptance.the-variants as acceptance
 use Rattle.calls.specs.declared.hypervisor.start.PortAcceptance.{PortAcceptance}
@@ -41,10 +47,11 @@ use Rattle.calls.specs.declared.hypervisor.start.PortAcceptance.the-variants as
 use Rattle.calls.specs.declared.hypervisor.start.Begin.{Begin}
 use Rattle.calls.specs.declared.hypervisor.start.Begin.the-variants as begin
 use Rattle.calls.specs.Answers.{codeOf}
-use Rattle.calls.specs.Records.{isFree, inArray, isPort, pageLimit, entryAt, withCall}
-use Rattle.calls.specs.Hypervisor.{Turn, isOffset, acceptInit, acceptExpand, entryOr14, acceptPort, bindEntry, beginBind, closeEntry, beginClose, priorityEntry, beginPriority, linkEntry, beginLink, replyR1, replyU1, replyBind, replyClose, replyFirstOf, replyFirst, replyR2, triesCas, replyR4, replyR5, replyR6, stagedAt, staged, due, nextOf, dueOf, initControlOf, initControl, expandArrayOf, expandArray, started, bindStart, closeStart, setPriority, raiseStart, unmaskStart, viewOf, moved, replyFound, replyOf}
-use Rattle.calls.specs.Guest.{isServing, takesIndex, replyG0, replyG2, replyG3, replyG4, guestStagedAt, guestStaged, guestDue, guestNext, guestDueOf, withGuestCall, serviceStart, guestMoved, guestMove, serviceReply, tellOf}
-use Rattle.calls.specs.Claims.{Act, Starts, Replies, Start, InitControl, ExpandArray, Bind, Close, Raise, Unmask, SetPriority, turnOf, GuestAct, Serves, ServiceReplies, Tells, guestTurnOf}
+use Rattle.calls.specs.Records.{isFree, inArray, isPort, pageLimit, entryAt, withCall, isClearing}
+use Rattle.calls.specs.Hypervisor.{Turn, isOffset, acceptInit, acceptExpand, entryOr14, acceptPort, bindEntry, beginBind, closeEntry, beginClose, priorityEntry, beginPriority, linkEntry, beginLink, replyR1, replyU1, replyBind, replyClose, replyFirstOf, replyFirst, replyR2, replyR3, afterFirstCas, afterLaterCas, replyR4, replySetBusy, replyClearBusy, replyR5, replyR6, stagedAt, staged, due, nextOf, dueOf, initControlOf, initControl, expandArrayOf, expandArray, started, bindStart, closeStart, setPriority, raiseStart, unmaskStart, viewOf, moved, replyFound, replyOf}
+use Rattle.calls.specs.Guest.{isServing, takesIndex, replyG0, replyG2, replyG3, replyG4, guestStagedAt, guestStaged, guestDue, guestNext, withGuestCall, serviceStart, guestMoved, guestMove, serviceReply, tellOf}
+use Rattle.calls.specs.ClearMask.{replyRead, replyCas, clearStagedAt, clearStaged, clearDue, clearNext, clearMaskStart, guestReply, guestDueOf}
+use Rattle.calls.specs.Claims.{Act, Starts, Replies, Start, InitControl, ExpandArray, Bind, Close, Raise, Unmask, SetPriority, turnOf, GuestAct, Serves, ClearsMask, GuestReplies, Tells, guestTurnOf}
 use Rattle.calls.proofs.Cases.{choose}
 use Rattle.evtchn_fifo.specs.Encoded.{encodedNext, encodedAnswer}
 use Rattle.exported.specs.Decoded.{decodedNext, decodedAnswer}
@@ -164,9 +171,12 @@ started-back n d ledger p settles = done-back 0
 abbrev Moves : Move → Type 0
 Moves m = Plain (m .answer)
 
-tries-back : (c : Call) (e tries seen : ℕ) → Moves (triesCas c e tries seen)
-unfolding triesCas codes
-tries-back c e tries seen = choose Moves (not (has Linked seen)) (λ k. refl) (choose Moves (leb 4 tries) (λ k. refl) (λ k. refl))
+r4-back : (c : Call) (e seen : ℕ) → Moves (replyR4 c e seen)
+unfolding replyR4 afterFirstCas afterLaterCas codes
+r4-back c e seen =
+    choose Moves (casTaken seen (c .word)) (λ k. refl)
+    (choose Moves (leb (c .tries) 1) (choose Moves (not (has Linked seen)) (λ k. refl) (λ k. refl))
+    (choose Moves (not (has Linked seen)) (λ k. refl) (choose Moves (leb 5 (c .tries)) (λ k. refl) (λ k. refl))))
 
 first-back : (o : Owner) (c : Call) (e seen : ℕ) → Moves (replyFirstOf o c e seen)
 unfolding replyBind replyClose replyR1 replyU1 codes
@@ -177,11 +187,13 @@ first-back owner.Raise c e seen = choose Moves (has Masked seen) (λ k. refl) (c
 first-back owner.Unmask c e seen = choose Moves (not (has Pending seen)) (λ k. refl) (choose Moves (has Linked seen) (λ k. refl) (λ k. refl))
 
 staged-back : (s : Stage) (c : Call) (e : ℕ) (v : View) (seen : ℕ) → Moves (stagedAt s c e v seen)
-unfolding replyFirst replyR2 replyR4 replyR5 replyR6 codes
+unfolding replyFirst replyR2 replyR3 replySetBusy replyClearBusy replyR5 replyR6 codes
 staged-back First c e v seen = first-back (c .owner) c e seen
 staged-back R2 c e v seen = choose Moves (has Linked seen) (λ k. refl) (λ k. refl)
-staged-back R3 c e v seen = tries-back c e 0 seen
-staged-back R4 c e v seen = choose Moves (casTaken seen (c .word)) (λ k. refl) (tries-back c e (c .tries) seen)
+staged-back R3 c e v seen = choose Moves (not (has Linked seen)) (λ k. refl) (λ k. refl)
+staged-back R4 c e v seen = r4-back c e seen
+staged-back SetBusy c e v seen = choose Moves (not (has Linked seen)) (λ k. refl) (λ k. refl)
+staged-back ClearBusy c e v seen = choose Moves (has Linked (c .word)) (λ k. refl) (λ k. refl)
 staged-back R5 c e v seen = λ k. refl
 staged-back R6 c e v seen = choose Moves (isReady (c .queue .0) seen) (λ k. refl) (λ k. refl)
 
@@ -239,14 +251,43 @@ guest-staged-back n G4 c ready words head seen = choose GuestMoves (has Pending 
 abbrev GuestTurns : GuestOutcome → Type 0
 GuestTurns o = ReadsBack (o .next)
 
-pub guest-turn-back : (n : ℕ) (g : Guest) (act : GuestAct) → ReadsBack (guestTurnOf n g act .next)
-unfolding serviceStart serviceReply tellOf guestStaged codes
-guest-turn-back n g Serves = choose GuestTurns (isServing (g .call .stage)) refl (guest-next-back n (withGuestCall g _) Done 0 (λ k. refl))
-guest-turn-back n g (ServiceReplies seen) =
+-- a clear_mask
+abbrev ClearMoves : ClearMove → Type 0
+ClearMoves m = Plain (m .answer)
+
+clear-staged-back : (s : ClearStage) (c : ClearCall) (seen : ℕ) → ClearMoves (clearStagedAt s c seen)
+unfolding replyRead replyCas codes
+clear-staged-back clearStage.None c seen = λ k. refl
+clear-staged-back clearStage.Read c seen =
+    choose ClearMoves (not (has Masked seen)) (λ k. refl) (choose ClearMoves (has Pending seen) (λ k. refl) (choose ClearMoves (has Busy seen) (λ k. refl) (λ k. refl)))
+clear-staged-back clearStage.Cas c seen = choose ClearMoves (casTaken seen (c .word)) (λ k. refl) (λ k. refl)
+
+clear-next-back : (c : ClearCall) (a : Answer) (count : ℕ) → Plain a → ReadsBack (clearNext c a count)
+unfolding clearNext encodedNext
+clear-next-back c a count h = choose ReadsBack (isClearing (c .stage)) (access-back (clearDue c)) (h count)
+
+service-reply-back : (n : ℕ) (g : Guest) (seen : ℕ) → GuestTurns (serviceReply n g seen)
+unfolding serviceReply guestStaged codes
+service-reply-back n g seen =
     choose GuestTurns (not (isServing (g .call .stage))) refl
     (guest-next-back n (guestMoved g (guestMove n g seen)) _ _ (guest-staged-back n (g .call .stage) (g .call) (g .ready) (g .words) _ seen))
+
+read-back : (p : Port) → ReadsBack (next.Access (Read (Word p)))
+unfolding encodedNext
+read-back p = access-back (Read (Word p))
+
+pub guest-turn-back : (n : ℕ) (g : Guest) (act : GuestAct) → ReadsBack (guestTurnOf n g act .next)
+unfolding serviceStart tellOf clearMaskStart guestReply clearStaged codes
+guest-turn-back n g Serves =
+    choose GuestTurns (isClearing (g .clear .stage)) refl
+    (choose GuestTurns (isServing (g .call .stage)) refl (guest-next-back n (withGuestCall g _) Done 0 (λ k. refl)))
+guest-turn-back n g (ClearsMask p) =
+    choose GuestTurns (isClearing (g .clear .stage)) refl
+    (choose GuestTurns (not (isPort n (p .0))) refl (choose GuestTurns (leb (g .words) (p .0)) refl (read-back p)))
+guest-turn-back n g (GuestReplies seen) =
+    choose GuestTurns (isClearing (g .clear .stage)) (clear-next-back _ _ _ (clear-staged-back (g .clear .stage) (g .clear) seen)) (service-reply-back n g seen)
 guest-turn-back n g (Tells words) = choose GuestTurns (ltb (g .words) words) refl refl
 
-pub service-due-back : (n : ℕ) (g : Guest) → ReadsBack (guestDueOf n g)
-unfolding codes
-service-due-back n g = guest-next-back n g NoCall 0 (λ k. refl)
+pub guest-due-back : (n : ℕ) (g : Guest) → ReadsBack (guestDueOf n g)
+unfolding guestDueOf codes
+guest-due-back n g = choose ReadsBack (isClearing (g .clear .stage)) (access-back (clearDue (g .clear))) (guest-next-back n g NoCall 0 (λ k. refl))

@@ -24,26 +24,28 @@ use Rattle.calls.specs.declared.hypervisor.start.Acceptance.the-variants as acc
 use Rattle.calls.specs.Answers.{codeOf}
 use Rattle.calls.specs.Records.{oneMore, isPort, isFree, pageLimit}
 use Rattle.calls.specs.Hypervisor.{acceptExpand, expandArrayOf, expandArray, dueOf}
-use Rattle.calls.specs.Guest.{maskOf, guestDueOf}
-use Rattle.calls.specs.Claims.{turnOf, GuestAct, Serves, ServiceReplies, Tells, guestTurnOf}
+use Rattle.calls.specs.Guest.{maskOf}
+use Rattle.calls.specs.ClearMask.{guestDueOf}
+use Rattle.calls.specs.Claims.{turnOf, GuestAct, Serves, ClearsMask, GuestReplies, Tells, guestTurnOf}
 use Rattle.calls.proofs.Cases.{choose, by-test}
 use Rattle.machine.specs.Memory.{Memory, performed, zeroPage}
-use Rattle.machine.specs.Exec.{Stepped, advanced, stepOf, listOf, hypervisorAnswer, guestAnswer, hypervisorAdvance, guestAdvance, hypervisorStep, guestStep, pageAdded, expandOf, startOf, performHypervisorNext, performHypervisor, performGuestNext, performGuest, performMasking, performMask, guestStartOf, performSide, handBack, advanceOf, exec, execAll}
+use Rattle.machine.specs.Exec.{Stepped, advanced, stepOf, listOf, hypervisorAnswer, guestAnswer, guestAccess, hypervisorAdvance, guestAdvance, hypervisorStep, guestStep, pageAdded, expandOf, startOf, performHypervisorNext, performHypervisor, performGuestNext, performGuest, performMasking, performMask, guestStartOf, performSide, handBack, advanceOf, exec, execAll}
 use Rattle.machine.specs.declared.types.Side.the-variants as side
 use Rattle.machine.specs.declared.types.Start.{Start}
 use Rattle.machine.specs.declared.types.Start.the-variants.{InitControl, ExpandArray, Bind, Close, SetPriority, Raise, Unmask}
-use Rattle.machine.specs.declared.types.GuestStart.the-variants.{Service, Mask, Tell}
+use Rattle.machine.specs.declared.types.GuestStart.the-variants.{Service, Mask, ClearMask, Tell}
 use Rattle.machine.specs.declared.types.Step.{Step}
 use Rattle.machine.specs.declared.types.Step.the-variants as step
 use Rattle.machine.specs.declared.types.Event.{Event}
-use Rattle.machine.specs.declared.types.Event.the-variants.{Nothing, HypervisorAccess, GuestAccess}
+use Rattle.machine.specs.declared.types.Event.the-variants.{Nothing, HypervisorAccess}
 use Rattle.evtchn_fifo.specs.Numbers.{narrow}
 use Rattle.evtchn_fifo.specs.Encoded.{encodedNext, encodedAnswer, encodedMasking}
 use Rattle.evtchn_fifo.specs.Ledger.{ledgerAt}
 use Rattle.evtchn_fifo.specs.DomainRecord.{domainAt, pagesAt}
 use Rattle.evtchn_fifo.specs.GuestRecord.{guestAt, wordsAt}
 use Rattle.evtchn_fifo.specs.Hypervisor.{expandBytes, dueBytes}
-use Rattle.evtchn_fifo.specs.Guest.{maskBytes, serviceDueBytes}
+use Rattle.evtchn_fifo.specs.Guest.{maskBytes}
+use Rattle.evtchn_fifo.specs.ClearMask.{guestDueBytes}
 use Rattle.evtchn_fifo.specs.Claims.{Meant, MeantAlone, MeantGuest}
 use Rattle.evtchn_fifo.proofs.Meaning.{domain-calls}
 use Rattle.evtchn_fifo.proofs.GuestMeaning.{guest-calls}
@@ -53,7 +55,7 @@ use Rattle.exported.specs.Run as run
 use Rattle.exported.specs.Run.{Bytes, worldOf, stepped, hypervisorDid, guestDid, wordsAfter, startDid, stepBytes, runBytes, narrowPort, narrowStart, narrowStep, LongEnough, RunsAreSteps}
 use Rattle.exported.specs.Demands.{Request, Starts, Replies, carriedBy, wroteBy}
 use Rattle.exported.proofs.Decoding.{access-back}
-use Rattle.exported.proofs.ReadBack.{turn-back, due-back, guest-turn-back, service-due-back}
+use Rattle.exported.proofs.ReadBack.{turn-back, due-back, guest-turn-back, guest-due-back}
 use Rattle.exported.proofs.Meanings.{actOf, guestActOf, request-means, guest-means, request-length, guest-length}
 
 -- ---- the page that an expand adds
@@ -154,11 +156,11 @@ module _ {n : ℕ} (wide : Width n) (b : Bytes) (long : LongEnough b) where
   unfolding guestAt
   guest-perform-is (next.Access a) =
       let seen = performed (b .memory) a .seen in
-      served-is (ServiceReplies seen) (GuestAccess (guest .call) a seen) (performed (b .memory) a .memory)
-  guest-perform-is (next.Answer a count) = served-is (ServiceReplies 0) Nothing (b .memory)
+      served-is (GuestReplies seen) (guestAccess guest a seen) (performed (b .memory) a .memory)
+  guest-perform-is (next.Answer a count) = served-is (GuestReplies 0) Nothing (b .memory)
 
-  pub service-due-is : decodedNext (serviceDueBytes n (b .guest)) ≡ guestDueOf n guest
-  service-due-is = ap decodedNext (guest-calls n .service-due (b .guest) (long .guest)) ∙ service-due-back n guest
+  pub guest-due-is : decodedNext (guestDueBytes n (b .guest)) ≡ guestDueOf n guest
+  guest-due-is = ap decodedNext (guest-calls n .due (b .guest) (long .guest)) ∙ guest-due-back n guest
 
   -- ---- a mask, which her number of words of 32 bits refuses as that of 64 does
 
@@ -184,11 +186,12 @@ module _ {n : ℕ} (wide : Width n) (b : Bytes) (long : LongEnough b) where
   step-is (step.Hypervisor s) = start-is s
   step-is (step.Guest Service) = served-is Serves Nothing (b .memory)
   step-is (step.Guest (Mask p)) = mask-is p
+  step-is (step.Guest (ClearMask p)) = served-is (ClearsMask p) Nothing (b .memory)
   step-is (step.Guest (Tell words)) = served-is (Tells words) Nothing (b .memory)
   step-is (step.Perform side.Hypervisor) = rw due-is (perform-is (dueOf n domain))
-  step-is (step.Perform side.Guest) = rw service-due-is (guest-perform-is (guestDueOf n guest))
+  step-is (step.Perform side.Guest) = rw guest-due-is (guest-perform-is (guestDueOf n guest))
   step-is (step.HandBack side.Hypervisor word) = asked-is (Replies word (b .ledger)) Nothing (b .memory)
-  step-is (step.HandBack side.Guest word) = served-is (ServiceReplies word) Nothing (b .memory)
+  step-is (step.HandBack side.Guest word) = served-is (GuestReplies word) Nothing (b .memory)
 
 -- ---- the records stay long enough
 
@@ -204,8 +207,8 @@ module _ (n : ℕ) (b : Bytes) (long : LongEnough b) where
   perform-long (next.Answer a count) = asked-long (Replies 0 (b .ledger)) _
 
   guest-perform-long : (x : Next) → LongEnough (run.performGuest n b x .bytes)
-  guest-perform-long (next.Access a) = served-long (ServiceReplies _) _
-  guest-perform-long (next.Answer a count) = served-long (ServiceReplies 0) _
+  guest-perform-long (next.Access a) = served-long (GuestReplies _) _
+  guest-perform-long (next.Answer a count) = served-long (GuestReplies 0) _
 
   mask-long : (x : Next) → LongEnough (run.performMask b x .bytes)
   mask-long (next.Access a) = record { domain = long .domain; guest = long .guest }
@@ -216,11 +219,12 @@ module _ (n : ℕ) (b : Bytes) (long : LongEnough b) where
   step-long (step.Hypervisor s) = asked-long (Starts s (b .ledger)) _
   step-long (step.Guest Service) = served-long Serves _
   step-long (step.Guest (Mask p)) = mask-long (decodedNext (maskBytes n (p .0) (wordsAt (b .guest))))
+  step-long (step.Guest (ClearMask p)) = served-long (ClearsMask p) _
   step-long (step.Guest (Tell words)) = served-long (Tells words) _
   step-long (step.Perform side.Hypervisor) = perform-long (decodedNext (dueBytes n (b .domain)))
-  step-long (step.Perform side.Guest) = guest-perform-long (decodedNext (serviceDueBytes n (b .guest)))
+  step-long (step.Perform side.Guest) = guest-perform-long (decodedNext (guestDueBytes n (b .guest)))
   step-long (step.HandBack side.Hypervisor word) = asked-long (Replies word (b .ledger)) _
-  step-long (step.HandBack side.Guest word) = served-long (ServiceReplies word) _
+  step-long (step.HandBack side.Guest word) = served-long (GuestReplies word) _
 
 -- ---- a run
 

@@ -15,6 +15,7 @@ module _ {Record Request Other Asked : Type 0} (one : Side Record Request) (two 
     pub after : (r : Record) → Fits r → (q : Request) → is (one .after r q) ≡ two .after (is r) (asks q)
     pub gives : (r : Record) → Fits r → (q : Request) → one .gives r q ≡ two .gives (is r) (asks q)
     pub replies : (q : Request) → one .replies q ≡ two .replies (asks q)
+    pub own : (r : Record) (q : Request) → one .own r q ≡ two .own (is r) (asks q)
     pub due : (r : Record) → Fits r → one .due r ≡ two .due (is r)
     pub underWay : (r : Record) → one .underWay r ≡ two .underWay (is r)
     pub count : (r : Record) → one .count r ≡ two .count (is r)
@@ -28,7 +29,7 @@ module _ {Record Request Other Asked : Type 0} (one : Side Record Request) (two 
     image s = record { state = is (s .state); named = s .named }
 
     one-step : (s : Counting Record) → Fits (s .state) → (q : Request) → image (runOne one s q) ≡ runOne two (image s) (asks q)
-    one-step s f q = rw (m .after (s .state) f q, m .gives (s .state) f q, m .replies q)
+    one-step s f q = rw (m .after (s .state) f q, m .gives (s .state) f q, m .replies q, m .own (s .state) q)
 
     ran : (s : Counting Record) → Fits (s .state) → (qs : List Request) → Fits (run one s qs .state) × (image (run one s qs) ≡ run two (image s) (map asks qs))
     ran s f [] = (f, refl)
@@ -42,8 +43,8 @@ module _ {Record Request Other Asked : Type 0} (one : Side Record Request) (two 
       stored = λ u. rw (m .count (s .state)) (b .stored (sym (m .underWay (s .state)) ∙ u));
       due = λ x e. rw (m .words (s .state)) (b .due x (sym (m .due (s .state) f) ∙ e));
       names = λ q x e. rw (m .words (one .after (s .state) q), m .after (s .state) f q) (b .names (asks q) x (sym (m .gives (s .state) f q) ∙ e));
-      count = λ q a count e. b .count (asks q) a count (sym (m .gives (s .state) f q) ∙ e);
-      ends = λ q a count r e other. m .underWay (one .after (s .state) q) ∙ rw (m .after (s .state) f q) (b .ends (asks q) a count (sym (m .replies q) ∙ r) (sym (m .gives (s .state) f q) ∙ e) other);
+      count = λ q a count o e. b .count (asks q) a count (sym (m .own (s .state) q) ∙ o) (sym (m .gives (s .state) f q) ∙ e);
+      ends = λ q a count o r e other. m .underWay (one .after (s .state) q) ∙ rw (m .after (s .state) f q) (b .ends (asks q) a count (sym (m .own (s .state) q) ∙ o) (sym (m .replies q) ∙ r) (sym (m .gives (s .state) f q) ∙ e) other);
     }
 
     pub bounded-from : (limit : ℕ) (fresh : Record) → Fits fresh → BoundedFrom two otherWords limit (is fresh) → BoundedFrom one wordsOf limit fresh

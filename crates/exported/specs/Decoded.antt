@@ -12,7 +12,7 @@ use Rattle.calls.specs.declared.types.Place.the-variants.{Word, Ready, Head}
 use Rattle.calls.specs.declared.types.Access.{Access}
 use Rattle.calls.specs.declared.types.Access.the-variants.{Read, Store, Or, And, Swap, Cas}
 use Rattle.calls.specs.declared.types.Answer.{Answer}
-use Rattle.calls.specs.declared.types.Answer.the-variants.{Done, LinkBits, UpcallWanted, LinkAbandoned, BadPort, NotBound, AlreadyBound, OutsideArray, StillLinked, BadPriority, AlreadyGiven, NotGiven, BadFrame, BadOffset, TooManyPages, NoEntry, CallUnderWay, NoCall, BadVcpu, BadIndex, HandedOver, NothingReady, Taken}
+use Rattle.calls.specs.declared.types.Answer.the-variants.{Done, LinkBits, UpcallWanted, LinkAbandoned, BadPort, NotBound, AlreadyBound, OutsideArray, StillLinked, BadPriority, AlreadyGiven, NotGiven, BadFrame, BadOffset, TooManyPages, NoEntry, CallUnderWay, NoCall, BadVcpu, BadIndex, HandedOver, NothingReady, Taken, CallUnmask}
 use Rattle.calls.specs.declared.types.Next.{Next}
 use Rattle.calls.specs.declared.types.Next.the-variants as next
 use Rattle.evtchn_fifo.specs.Encoded.{EncodedNext, encodedAnswer, encodedAccess}
@@ -41,7 +41,8 @@ decodedAnswer number value =
     (cond (eqb number 19) (HandedOver (portAt value))
     (cond (eqb number 20) NothingReady
     (cond (eqb number 21) (Taken (portAt value))
-    NoCall))))))))))))))))))))
+    (cond (eqb number 35) CallUnmask
+    NoCall)))))))))))))))))))))
 
 -- an access: its code is 256 + 16 times the kind + the place
 unfoldable pub decodedPlace : ℕ → ℕ → Place

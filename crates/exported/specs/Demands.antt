@@ -8,13 +8,13 @@ use lib.ListN.{length, replicate}
 use Rattle.word.specs.Word.{linkBits}
 use Rattle.calls.specs.declared.types.Access.{Access}
 use Rattle.calls.specs.declared.types.Next.the-variants as next
-use Rattle.calls.specs.Records.{isFree}
+use Rattle.calls.specs.Records.{isFree, isClearing}
 use Rattle.calls.specs.Guest.{isServing}
-use Rattle.calls.specs.Claims.{Side, GuestAct, Serves, ServiceReplies, Tells, isGuestReply}
+use Rattle.calls.specs.Claims.{Side, GuestAct, Serves, ClearsMask, GuestReplies, Tells, isGuestReply, isServices, isClears}
 use Rattle.machine.specs.Memory.{placeOf}
 use Rattle.machine.specs.declared.types.Start.{Start}
 use Rattle.machine.specs.declared.types.Step.{Step}
-use Rattle.claims.specs.Reach.{Inside, BoundedFrom, callLimit, serviceLimit}
+use Rattle.claims.specs.Reach.{Inside, BoundedFrom, callLimit, serviceLimit, clearLimit}
 use Rattle.interleaving.specs.Fresh.{freshWorld}
 use Rattle.interleaving.specs.Rules.{KeepsRules}
 use Rattle.interleaving.specs.Claim.{Claim}
@@ -24,7 +24,8 @@ use Rattle.evtchn_fifo.specs.Ledger.{entries}
 use Rattle.evtchn_fifo.specs.DomainRecord.{domainSize, domainAt, pagesAt}
 use Rattle.evtchn_fifo.specs.GuestRecord.{guestSize, guestAt, wordsAt}
 use Rattle.evtchn_fifo.specs.Hypervisor.{replyBytes, dueBytes, freshDomainBytes}
-use Rattle.evtchn_fifo.specs.Guest.{serviceBytes, serviceReplyBytes, serviceDueBytes, maskBytes, tellBytes, freshGuestBytes}
+use Rattle.evtchn_fifo.specs.Guest.{serviceBytes, maskBytes, tellBytes, freshGuestBytes}
+use Rattle.evtchn_fifo.specs.ClearMask.{clearMaskBytes, guestReplyBytes, guestDueBytes}
 use Rattle.exported.specs.Decoded.{decodedNext}
 use Rattle.exported.specs.Run.{Bytes, worldOf, freshBytes, startBytes, runBytes, narrowStep}
 
@@ -49,6 +50,7 @@ domainSide n =
       after = λ r q. carriedBy n r q .record-bytes;
       gives = λ r q. decodedNext (carriedBy n r q .next);
       replies = isReply;
+      own = λ r q. true;
       due = λ r. decodedNext (dueBytes n r);
       underWay = λ r. not (isFree (domainAt r .call .owner));
       count = λ r. domainAt r .call .count;
@@ -56,24 +58,42 @@ domainSide n =
 
 abbrev pub wroteBy : ℕ → List ℕ → GuestAct → Wrote
 wroteBy n r Serves = serviceBytes n r
-wroteBy n r (ServiceReplies seen) = serviceReplyBytes n r seen
+wroteBy n r (ClearsMask p) = clearMaskBytes n r (p .0)
+wroteBy n r (GuestReplies seen) = guestReplyBytes n r seen
 wroteBy n r (Tells words) = tellBytes r words
 
+-- by its service
 abbrev pub guestSide : ℕ → Side (List ℕ) GuestAct
 guestSide n =
     record {
       after = λ r act. wroteBy n r act .record-bytes;
       gives = λ r act. decodedNext (wroteBy n r act .next);
       replies = isGuestReply;
-      due = λ r. decodedNext (serviceDueBytes n r);
+      own = λ r act. isServices (guestAt r) act;
+      due = λ r. decodedNext (guestDueBytes n r);
       underWay = λ r. isServing (guestAt r .call .stage);
       count = λ r. guestAt r .call .count;
     }
 
--- every access inside the array, or the guest's words, or the control block; nine at most, and five; a mask's below its words
+-- and by its clear_mask
+abbrev pub clearSide : ℕ → Side (List ℕ) GuestAct
+clearSide n =
+    record {
+      after = λ r act. wroteBy n r act .record-bytes;
+      gives = λ r act. decodedNext (wroteBy n r act .next);
+      replies = isGuestReply;
+      own = λ r act. isClears (guestAt r) act;
+      due = λ r. decodedNext (guestDueBytes n r);
+      underWay = λ r. isClearing (guestAt r .clear .stage);
+      count = λ r. guestAt r .clear .count;
+    }
+
+-- every access inside the array, or the guest's words, or the control block; twelve at most a call, five a service, two a clear_mask; a
+-- mask's below its words
 pub record Demand1 (n : ℕ) : Type 0 where
   pub calls : (r : List ℕ) → domainSize ≤ length r → BoundedFrom (domainSide n) (λ d. 1024 * pagesAt d) callLimit (freshDomainBytes r .record-bytes)
   pub services : (r : List ℕ) → guestSize ≤ length r → BoundedFrom (guestSide n) wordsAt serviceLimit (freshGuestBytes r .record-bytes)
+  pub clears : (r : List ℕ) → guestSize ≤ length r → BoundedFrom (clearSide n) wordsAt clearLimit (freshGuestBytes r .record-bytes)
   pub masks : (p words : ℕ) (x : Access) → decodedNext (maskBytes n p words) ≡ next.Access x → Inside words (placeOf x)
 
 -- a result that names an access names the one that is due of the bytes left: a host may make it without asking

@@ -14,23 +14,24 @@ use Rattle.calls.specs.declared.types.Answer.the-variants.{Done}
 use Rattle.calls.specs.declared.types.Next.{Next}
 use Rattle.calls.specs.declared.types.Next.the-variants as next
 use Rattle.machine.specs.Memory.{Memory, memory, performed, zeroPage}
-use Rattle.machine.specs.Exec.{World, Stepped, listOf, hypervisorAnswer, guestAnswer, execAll}
+use Rattle.machine.specs.Exec.{World, Stepped, listOf, hypervisorAnswer, guestAnswer, guestAccess, execAll}
 use Rattle.machine.specs.declared.types.Side.the-variants as side
 use Rattle.machine.specs.declared.types.Start.{Start}
 use Rattle.machine.specs.declared.types.Start.the-variants.{InitControl, ExpandArray, Bind, Close, SetPriority, Raise, Unmask}
 use Rattle.machine.specs.declared.types.GuestStart.{GuestStart}
-use Rattle.machine.specs.declared.types.GuestStart.the-variants.{Service, Mask, Tell}
+use Rattle.machine.specs.declared.types.GuestStart.the-variants.{Service, Mask, ClearMask, Tell}
 use Rattle.machine.specs.declared.types.Step.{Step}
 use Rattle.machine.specs.declared.types.Step.the-variants as step
 use Rattle.machine.specs.declared.types.Event.{Event}
-use Rattle.machine.specs.declared.types.Event.the-variants.{Nothing, HypervisorAccess, GuestAccess, MaskAccess, GuestAnswer}
+use Rattle.machine.specs.declared.types.Event.the-variants.{Nothing, HypervisorAccess, MaskAccess, GuestAnswer}
 use Rattle.evtchn_fifo.specs.Numbers.{narrow}
 use Rattle.evtchn_fifo.specs.Encoded.{Wrote, Carried, carried}
 use Rattle.evtchn_fifo.specs.Ledger.{ledgerAt, freshLedgerBytes}
 use Rattle.evtchn_fifo.specs.DomainRecord.{domainSize, domainAt, pagesAt}
 use Rattle.evtchn_fifo.specs.GuestRecord.{guestSize, guestAt, wordsAt}
 use Rattle.evtchn_fifo.specs.Hypervisor.{initBytes, expandBytes, bindBytes, closeBytes, setPriorityBytes, raiseBytes, unmaskBytes, replyBytes, dueBytes, freshDomainBytes}
-use Rattle.evtchn_fifo.specs.Guest.{serviceBytes, serviceReplyBytes, serviceDueBytes, maskBytes, tellBytes, freshGuestBytes}
+use Rattle.evtchn_fifo.specs.Guest.{serviceBytes, maskBytes, tellBytes, freshGuestBytes}
+use Rattle.evtchn_fifo.specs.ClearMask.{clearMaskBytes, guestReplyBytes, guestDueBytes}
 use Rattle.exported.specs.Decoded.{decodedNext}
 
 -- ---- what C has
@@ -114,8 +115,8 @@ guestDid b w access m = record {
 
 abbrev pub performGuest : ℕ → Bytes → Next → SteppedBytes
 performGuest n b (next.Access a) =
-    guestDid b (serviceReplyBytes n (b .guest) (performed (b .memory) a .seen)) (GuestAccess (guestAt (b .guest) .call) a (performed (b .memory) a .seen)) (performed (b .memory) a .memory)
-performGuest n b (next.Answer a count) = guestDid b (serviceReplyBytes n (b .guest) 0) Nothing (b .memory)
+    guestDid b (guestReplyBytes n (b .guest) (performed (b .memory) a .seen)) (guestAccess (guestAt (b .guest)) a (performed (b .memory) a .seen)) (performed (b .memory) a .memory)
+performGuest n b (next.Answer a count) = guestDid b (guestReplyBytes n (b .guest) 0) Nothing (b .memory)
 
 -- a mask's access says its answer 0 and its count 1, and takes no reply
 abbrev pub performMask : Bytes → Next → SteppedBytes
@@ -128,6 +129,7 @@ performMask b (next.Answer a count) = record { bytes = b; events = GuestAnswer a
 abbrev pub guestStartDid : ℕ → Bytes → GuestStart → SteppedBytes
 guestStartDid n b Service = guestDid b (serviceBytes n (b .guest)) Nothing (b .memory)
 guestStartDid n b (Mask p) = performMask b (decodedNext (maskBytes n (p .0) (wordsAt (b .guest))))
+guestStartDid n b (ClearMask p) = guestDid b (clearMaskBytes n (b .guest) (p .0)) Nothing (b .memory)
 guestStartDid n b (Tell words) = guestDid b (tellBytes (b .guest) words) Nothing (b .memory)
 
 -- ---- a step, a list of steps
@@ -136,9 +138,9 @@ unfoldable pub stepBytes : ℕ → Bytes → Step → SteppedBytes
 stepBytes n b (step.Hypervisor s) = startDid n b s
 stepBytes n b (step.Guest s) = guestStartDid n b s
 stepBytes n b (step.Perform side.Hypervisor) = performHypervisor n b (decodedNext (dueBytes n (b .domain)))
-stepBytes n b (step.Perform side.Guest) = performGuest n b (decodedNext (serviceDueBytes n (b .guest)))
+stepBytes n b (step.Perform side.Guest) = performGuest n b (decodedNext (guestDueBytes n (b .guest)))
 stepBytes n b (step.HandBack side.Hypervisor word) = hypervisorDid b (replyBytes n (b .domain) (b .ledger) word) Nothing (b .memory)
-stepBytes n b (step.HandBack side.Guest word) = guestDid b (serviceReplyBytes n (b .guest) word) Nothing (b .memory)
+stepBytes n b (step.HandBack side.Guest word) = guestDid b (guestReplyBytes n (b .guest) word) Nothing (b .memory)
 
 unfoldable pub runBytes : ℕ → Bytes → List Step → SteppedBytes
 runBytes n b [] = record { bytes = b; events = [] }
@@ -163,6 +165,7 @@ abbrev pub narrowStep : Step → Step
 narrowStep (step.Hypervisor s) = step.Hypervisor (narrowStart s)
 narrowStep (step.Guest Service) = step.Guest Service
 narrowStep (step.Guest (Mask p)) = step.Guest (Mask (narrowPort p))
+narrowStep (step.Guest (ClearMask p)) = step.Guest (ClearMask (narrowPort p))
 narrowStep (step.Guest (Tell words)) = step.Guest (Tell (narrow words))
 narrowStep (step.Perform s) = step.Perform s
 narrowStep (step.HandBack s word) = step.HandBack s word

@@ -5,13 +5,13 @@ use mathlib.Core.Path.{_≡_, refl, sym, ap, _∙_, subst}
 use mathlib.Core.List.{List, [], _∷_, _++_}
 use Rattle.word.specs.Word.{Width, linkBits, linkBits-width}
 use Rattle.calls.specs.Records.{freshDomain, freshGuest}
-use Rattle.calls.specs.Claims.{Side, hypervisorSide, guestSide, Counting, runOne, run as runActs}
+use Rattle.calls.specs.Claims.{Side, hypervisorSide, guestSide, clearSide, Counting, runOne, run as runActs}
 use Rattle.machine.specs.declared.types.Step.{Step}
 use Rattle.machine.specs.Exec.{World, Advanced, worldAfter, exec, execAll}
 use Rattle.machine.proofs.StepActs.{Acted, byHypervisor, byGuest, byMask, acted}
-use Rattle.claims.specs.Reach.{Bounded, BoundedFrom, arrayWords, callLimit, serviceLimit}
+use Rattle.claims.specs.Reach.{Bounded, BoundedFrom, arrayWords, callLimit, serviceLimit, clearLimit}
 use Rattle.claims.proofs.HypervisorReach.{calls-bounded}
-use Rattle.claims.proofs.GuestReach.{services-bounded}
+use Rattle.claims.proofs.GuestReach.{services-bounded, clears-bounded}
 use Rattle.interleaving.specs.Demand3.{Demand3}
 use Rattle.interleaving.proofs.Theorem.{demand3}
 use Rattle.fence.specs.Domains.{ownList, Within, EachDemand1, EachDemand3}
@@ -46,28 +46,32 @@ module _ {Record Request : Type 0} (side : Side Record Request) (fresh : Record)
   bounded-at words limit b k = subst (λ r. Bounded side words limit (record { state = r; named = named-of k })) (k .same) (b (k .acts))
 
 module _ (n : ℕ) where
-  record BothReached (w : World) : Type 0 where
+  -- the guest's acts, counted by its services and by its clear_masks
+  record AllReached (w : World) : Type 0 where
     hypervisor : Reached (hypervisorSide n) freshDomain (w .domain)
     guest : Reached (guestSide n) freshGuest (w .guest)
+    clears : Reached (clearSide n) freshGuest (w .guest)
 
-  step-reached : (w : World) → BothReached w → {s : Step} {t : Advanced} → Acted n w s t → BothReached (worldAfter t)
+  step-reached : (w : World) → AllReached w → {s : Step} {t : Advanced} → Acted n w s t → AllReached (worldAfter t)
   step-reached w k (byHypervisor act access m same reply h none made) =
-      record { hypervisor = more (hypervisorSide n) freshDomain (k .hypervisor) act; guest = k .guest }
+      record { hypervisor = more (hypervisorSide n) freshDomain (k .hypervisor) act; guest = k .guest; clears = k .clears }
   step-reached w k (byGuest act access reply h none) =
-      record { hypervisor = k .hypervisor; guest = more (guestSide n) freshGuest (k .guest) act }
-  step-reached w k (byMask access other reply h none) = record { hypervisor = k .hypervisor; guest = k .guest }
+      record { hypervisor = k .hypervisor; guest = more (guestSide n) freshGuest (k .guest) act; clears = more (clearSide n) freshGuest (k .clears) act }
+  step-reached w k (byMask access other reply h none) = record { hypervisor = k .hypervisor; guest = k .guest; clears = k .clears }
 
-  steps-reached : (w : World) (ss : List Step) → BothReached w → BothReached (execAll n w ss .world)
+  steps-reached : (w : World) (ss : List Step) → AllReached w → AllReached (execAll n w ss .world)
   unfolding execAll
   steps-reached w [] k = k
   steps-reached w (s ∷ ss) k = steps-reached (exec n w s .world) ss (step-reached w k (acted n w s))
 
-  within : {w : World} → BothReached w → Within n w
+  within : {w : World} → AllReached w → Within n w
   within k = record {
     named = named-of (hypervisorSide n) freshDomain (k .hypervisor);
     calls = bounded-at (hypervisorSide n) freshDomain arrayWords callLimit (calls-bounded n) (k .hypervisor);
     served = named-of (guestSide n) freshGuest (k .guest);
     services = bounded-at (guestSide n) freshGuest (λ g. g .words) serviceLimit (services-bounded n) (k .guest);
+    cleared = named-of (clearSide n) freshGuest (k .clears);
+    clears = bounded-at (clearSide n) freshGuest (λ g. g .words) clearLimit (clears-bounded n) (k .clears);
   }
 
 pub each-demand1 : (n : ℕ) → EachDemand1 n
@@ -77,6 +81,7 @@ each-demand1 n σ os d e f =
     (within n (steps-reached n (σ .worlds d) (ownList n d σ os) (record {
       hypervisor = record { acts = []; same = sym e };
       guest = record { acts = []; same = sym f };
+      clears = record { acts = []; same = sym f };
     })))
 
 -- ---- demand 3

@@ -37,6 +37,8 @@ isFirst stage.First = true
 isFirst stage.R2 = false
 isFirst stage.R3 = false
 isFirst stage.R4 = false
+isFirst stage.SetBusy = false
+isFirst stage.ClearBusy = false
 isFirst stage.R5 = false
 isFirst stage.R6 = false
 

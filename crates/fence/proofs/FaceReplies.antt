@@ -20,14 +20,14 @@ use Rattle.calls.specs.declared.types.Answer.the-variants.{Done, StillLinked, N
 use Rattle.calls.specs.declared.types.Owner.{Owner}
 use Rattle.calls.specs.declared.types.Owner.the-variants as owner
 use Rattle.calls.specs.declared.types.Stage.{Stage}
-use Rattle.calls.specs.declared.types.Stage.the-variants.{First, R2, R3, R4, R5, R6}
+use Rattle.calls.specs.declared.types.Stage.the-variants.{First, R2, R3, R4, SetBusy, ClearBusy, R5, R6}
 use Rattle.calls.specs.declared.types.Call.{Call}
 use Rattle.calls.specs.declared.types.Domain.{Domain}
 use Rattle.calls.specs.declared.hypervisor.stage.Move.{Move}
 use Rattle.calls.specs.declared.hypervisor.stage.View.{View}
 use Rattle.calls.specs.Answers.{codeOf}
 use Rattle.calls.specs.Records.{entryAt, isFree, closingBy, closingPort}
-use Rattle.calls.specs.Hypervisor.{Turn, turn, answered, nextOf, goesOn, ends, named, replyR1, replyU1, replyBind, replyClose, replyFirstOf, replyFirst, afterR2, replyR2, triesCas, replyR4, replyR5, replyR6, stagedAt, staged, viewOf, moved, carriedOut, replyFound, replyOf}
+use Rattle.calls.specs.Hypervisor.{Turn, turn, answered, nextOf, goesOn, ends, named, replyR1, replyU1, replyBind, replyClose, replyFirstOf, replyFirst, afterR2, replyR2, replyR3, afterFirstCas, afterLaterCas, replyR4, replySetBusy, replyClearBusy, replyR5, replyR6, stagedAt, staged, viewOf, moved, carriedOut, replyFound, replyOf}
 use Rattle.calls.proofs.Cases.{choose, by-test}
 use Rattle.machine.specs.declared.types.Event.the-variants.{HypervisorAnswer}
 use Rattle.fence.specs.System.{fallsBy}
@@ -60,10 +60,12 @@ module _ (c : Call) (e seen : ℕ) where
   first-fits owner.Raise p = link-fits (has Masked seen) (has Linked seen)
   first-fits owner.Unmask p = link-fits (not (has Pending seen)) (has Linked seen)
 
-  tries-fit : (tries : ℕ) → Fits e quiet (triesCas c e tries seen)
-  unfolding triesCas
-  tries-fit tries =
-      choose (Fits e quiet) (not (has Linked seen)) (refl, refl) (choose (Fits e quiet) (leb 4 tries) (refl, refl) (refl, refl))
+  r4-fits : Fits e quiet (replyR4 c e seen)
+  unfolding replyR4 afterFirstCas afterLaterCas
+  r4-fits =
+      choose (Fits e quiet) (casTaken seen (c .word)) (refl, refl)
+      (choose (Fits e quiet) (leb (c .tries) 1) (choose (Fits e quiet) (not (has Linked seen)) (refl, refl) (refl, refl))
+      (choose (Fits e quiet) (not (has Linked seen)) (refl, refl) (choose (Fits e quiet) (leb 5 (c .tries)) (refl, refl) (refl, refl))))
 
   after-quiet : (q : Queue) (tail : ℕ) → underWayOf (afterR2 c q tail) ≡ quiet
   unfolding afterR2
@@ -73,11 +75,13 @@ module _ (c : Call) (e seen : ℕ) where
       P x = underWayOf x ≡ quiet
 
   fits : (s : Stage) (v : View) → Fits e (cond (isFirst s) (firstBy (c .owner) (c .port .0)) quiet) (stagedAt s c e v seen)
-  unfolding replyFirst replyR2 replyR4 replyR5 replyR6
+  unfolding replyFirst replyR2 replyR3 replySetBusy replyClearBusy replyR5 replyR6
   fits First v = first-fits (c .owner) (c .port .0)
   fits R2 v = choose (Fits e quiet) (has Linked seen) (refl, refl) (after-quiet _ (v .tail), bound-linkedEntry e (priority e))
-  fits R3 v = tries-fit 0
-  fits R4 v = choose (Fits e quiet) (casTaken seen (c .word)) (refl, refl) (tries-fit (c .tries))
+  fits R3 v = choose (Fits e quiet) (not (has Linked seen)) (refl, refl) (refl, refl)
+  fits R4 v = r4-fits
+  fits SetBusy v = choose (Fits e quiet) (not (has Linked seen)) (refl, refl) (refl, refl)
+  fits ClearBusy v = choose (Fits e quiet) (has Linked (c .word)) (refl, refl) (refl, refl)
   fits R5 v = (refl, refl)
   fits R6 v = choose (Fits e quiet) (isReady (c .queue .0) seen) (refl, refl) (refl, refl)
 
@@ -107,6 +111,8 @@ closing-by owner.Close First p = refl
 closing-by owner.Close R2 p = refl
 closing-by owner.Close R3 p = refl
 closing-by owner.Close R4 p = refl
+closing-by owner.Close SetBusy p = refl
+closing-by owner.Close ClearBusy p = refl
 closing-by owner.Close R5 p = refl
 closing-by owner.Close R6 p = refl
 closing-by owner.Raise s p = choose (λ u. 0 ≡ closing u) (isFirst s) refl refl

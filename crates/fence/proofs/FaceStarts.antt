@@ -31,7 +31,7 @@ use Rattle.calls.proofs.Cases.{choose, by-test}
 use Rattle.machine.specs.declared.types.Start.{Start}
 use Rattle.machine.specs.declared.types.Start.the-variants.{InitControl, ExpandArray, Bind, Close, SetPriority, Raise, Unmask}
 use Rattle.machine.specs.declared.types.Event.{Event}
-use Rattle.machine.specs.declared.types.Event.the-variants.{Nothing, HypervisorAccess, GuestAccess, MaskAccess, HypervisorAnswer, GuestAnswer}
+use Rattle.machine.specs.declared.types.Event.the-variants.{Nothing, HypervisorAccess, GuestAccess, ClearAccess, MaskAccess, HypervisorAnswer, GuestAnswer}
 use Rattle.machine.specs.Exec.{expandOf, startOf}
 use Rattle.fence.specs.System.{closesAtStart, fallsBy}
 use Rattle.fence.specs.Fence.{refuses, weakest}
@@ -60,6 +60,7 @@ pub none-falls : (x : Event) → fallsBy x 0 ≡ 0
 none-falls Nothing = refl
 none-falls (HypervisorAccess c a seen) = refl
 none-falls (GuestAccess c a seen) = refl
+none-falls (ClearAccess c a seen) = refl
 none-falls (MaskAccess a seen) = refl
 none-falls (HypervisorAnswer a count) = choose (λ (k : ℕ). k ≡ 0) (eqb (codeOf a .number) 0) refl refl
 none-falls (GuestAnswer a count) = refl

@@ -8,11 +8,11 @@ use mathlib.Core.List.{List, [], _∷_, _++_}
 use lib.ListN.{length}
 use lib.Dec.{eqb}
 use Rattle.calls.specs.Records.{freshDomain, freshGuest}
-use Rattle.calls.specs.Claims.{hypervisorSide, guestSide}
+use Rattle.calls.specs.Claims.{hypervisorSide, guestSide, clearSide}
 use Rattle.machine.specs.declared.types.Step.{Step}
 use Rattle.machine.specs.declared.types.Event.{Event}
 use Rattle.machine.specs.Exec.{World, execAll}
-use Rattle.claims.specs.Reach.{Bounded, arrayWords, callLimit, serviceLimit}
+use Rattle.claims.specs.Reach.{Bounded, arrayWords, callLimit, serviceLimit, clearLimit}
 use Rattle.interleaving.specs.Fresh.{freshWorld}
 use Rattle.interleaving.specs.Rules.{KeepsRules}
 use Rattle.interleaving.specs.Claim.{Claim}
@@ -49,6 +49,8 @@ pub record Within (n : ℕ) (w : World) : Type 0 where
   pub calls : Bounded (hypervisorSide n) arrayWords callLimit (record { state = w .domain; named = named })
   pub served : ℕ
   pub services : Bounded (guestSide n) (λ g. g .words) serviceLimit (record { state = w .guest; named = served })
+  pub cleared : ℕ
+  pub clears : Bounded (clearSide n) (λ g. g .words) clearLimit (record { state = w .guest; named = cleared })
 
 unfoldable pub EachDemand1 : ℕ → Type 0
 EachDemand1 n = (σ : System) (os : List Order) (d : ℕ) → σ .worlds d .domain ≡ freshDomain → σ .worlds d .guest ≡ freshGuest → Within n (run n σ os .worlds d)

@@ -16,7 +16,7 @@ use Rattle.machine.specs.declared.types.Start.the-variants.{InitControl, Expand
 use Rattle.machine.specs.declared.types.Step.{Step}
 use Rattle.machine.specs.declared.types.Step.the-variants as step
 use Rattle.machine.specs.declared.types.Event.{Event}
-use Rattle.machine.specs.declared.types.Event.the-variants.{Nothing, HypervisorAccess, GuestAccess, MaskAccess, HypervisorAnswer, GuestAnswer}
+use Rattle.machine.specs.declared.types.Event.the-variants.{Nothing, HypervisorAccess, GuestAccess, ClearAccess, MaskAccess, HypervisorAnswer, GuestAnswer}
 use Rattle.machine.specs.Exec.{World, advanceOf}
 use Rattle.fence.specs.System.{System, Order, On, Act, Answered, Works, Heard, Says, From, act, after, run, trace}
 
@@ -47,6 +47,7 @@ abbrev pub refuses : Event → Bool
 refuses Nothing = false
 refuses (HypervisorAccess c a seen) = false
 refuses (GuestAccess c a seen) = false
+refuses (ClearAccess c a seen) = false
 refuses (MaskAccess a seen) = false
 refuses (HypervisorAnswer a count) = isRefusal a
 refuses (GuestAnswer a count) = false
@@ -55,6 +56,7 @@ abbrev pub isSeven : Event → Bool
 isSeven Nothing = false
 isSeven (HypervisorAccess c a seen) = false
 isSeven (GuestAccess c a seen) = false
+isSeven (ClearAccess c a seen) = false
 isSeven (MaskAccess a seen) = false
 isSeven (HypervisorAnswer a count) = eqb (codeOf a .number) 7
 isSeven (GuestAnswer a count) = false

@@ -14,7 +14,7 @@ use Rattle.machine.specs.declared.types.Start.the-variants.{InitControl, Expand
 use Rattle.machine.specs.declared.types.Step.{Step}
 use Rattle.machine.specs.declared.types.Step.the-variants as step
 use Rattle.machine.specs.declared.types.Event.{Event}
-use Rattle.machine.specs.declared.types.Event.the-variants.{Nothing, HypervisorAccess, GuestAccess, MaskAccess, HypervisorAnswer, GuestAnswer}
+use Rattle.machine.specs.declared.types.Event.the-variants.{Nothing, HypervisorAccess, GuestAccess, ClearAccess, MaskAccess, HypervisorAnswer, GuestAnswer}
 use Rattle.machine.specs.Exec.{World, exec, advanceOf}
 use Rattle.cables.specs.Table.{Slot, end, domainOf, portOf, lowestFree, across}
 use Rattle.cables.specs.Rules.{portRefusal, layRefusal, nearRefusal, tableLaid, tableCut, fallenAt, tableFallen}
@@ -86,6 +86,7 @@ abbrev pub fallsBy : Event → ℕ → ℕ
 fallsBy Nothing p = 0
 fallsBy (HypervisorAccess c a seen) p = 0
 fallsBy (GuestAccess c a seen) p = 0
+fallsBy (ClearAccess c a seen) p = 0
 fallsBy (MaskAccess a seen) p = 0
 fallsBy (HypervisorAnswer a count) p = fallenAt (codeOf a .number) p
 fallsBy (GuestAnswer a count) p = 0

@@ -30,7 +30,7 @@ use Rattle.machine.specs.Exec.{World, Advanced, hypervisorStep, hypervisorRepli
 use Rattle.machine.specs.declared.types.Side.the-variants as side
 use Rattle.machine.specs.declared.types.Event.{Event}
 use Rattle.machine.specs.declared.types.Event.the-variants.{HypervisorAccess}
-use Rattle.queue.specs.Model.{Word, Call, GuestCall, alone, withWords}
+use Rattle.queue.specs.Model.{Word, Call, withWords}
 use Rattle.queue.specs.Update.{update}
 use Rattle.queue.specs.Stages.{After, put}
 use Rattle.queue.specs.Budget.{mostTries, madeBy}
@@ -38,7 +38,7 @@ use Rattle.queue.specs.Invariant.{Inv, Keeps}
 use Rattle.queue.proofs.Cases.{clash, by-cond, split}
 use Rattle.interleaving.specs.Bounds.{Bounds, AccessBounds, AnswerBounds}
 use Rattle.interleaving.proofs.Decode.{decoded}
-use Rattle.interleaving.proofs.View.{viewBy, viewOf, callOf, guestCallOf, agree, set-update, set-blind}
+use Rattle.interleaving.proofs.View.{viewBy, viewOf, callOf, guestCallOf, guestsOf, clearsOf, agree, set-update, set-blind}
 use Rattle.interleaving.specs.Histories.{takenIn}
 use Rattle.interleaving.proofs.HistoryLaws.{InOrder, order-quiet, order-answer}
 use Rattle.interleaving.proofs.Good.{Sizes, Fit, Core, Kept}
@@ -64,10 +64,6 @@ tailOf w = getD (w .domain .tails) (queueOf w) 0
 
 abbrev pub entryOf : World → ℕ
 entryOf w = getD (w .ledger) (portOf w) 0
-
--- the guests' calls, of which there is one
-abbrev pub guestsOf : World → ℕ → GuestCall
-guestsOf w = alone (guestCallOf (w .guest .call))
 
 -- an access that sees `seen` and leaves memory m, and the reply's move
 abbrev pub carried : ℕ → World → Access → ℕ → Memory → Move → Advanced
@@ -106,23 +102,24 @@ answer-bounds n d a count b = by-cond (λ x. Bounds (listOf (hypervisorAnswer x)
     (λ e. (b, tt)) (λ e. tt)
 
 module _ {n : ℕ} (w : World) (h : List Event) {c : Call} (k : Core n w c (guestCallOf (w .guest .call)) h) (acc : Access) (seen : ℕ) (m : Memory) (mv : Move) where
-  pub kept : (a : After Call) → Keeps a (guestsOf w)
+  pub kept : (a : After Call) → Keeps a (guestsOf w) (clearsOf n w)
       → viewBy n (w .domain .pages) (m .words) (m .block) (set (w .domain .tails) (mv .queue .0) (mv .tail)) (set (w .ledger) (portOf w) (mv .entry)) (w .guest .heads) (w .guest .ready) ≡ a .view
       → Moves n (length (w .ledger)) (w .domain .call) (a .call) mv
       → Sizes n (w .domain .pages) (m .words) (m .block) (w .domain .tails) (w .guest .heads)
-      → madeBy c < madeBy (a .call) → madeBy c < 5 + mostTries
+      → madeBy c < madeBy (a .call) → madeBy c < 7 + mostTries
       → InOrder (h ++ HypervisorAccess (w .domain .call) acc seen ∷ []) (a .lists)
-      → (w .domain .call .count ≤ 5 + mostTries → AccessBounds (w .domain .call) seen)
+      → (w .domain .call .count ≤ 7 + mostTries → AccessBounds (w .domain .call) seen)
       → Kept n (carried n w acc seen m mv) h
   unfolding moved
   kept a inv view moves sizes less few order bounds = record {
     good = record {
       lists = a .lists;
-      inv = subst (λ v. Inv v (callOf n (mv .call)) (guestsOf w) (a .lists)) (sym view) (rw (moves .call) inv);
+      inv = subst (λ v. Inv v (callOf n (mv .call)) (guestsOf w) (clearsOf n w) (a .lists)) (sym view) (rw (moves .call) inv);
       sizes = record { array = sizes .array; lent = sizes .lent; small = sizes .small; block = sizes .block; tails = simp length-set (sizes .tails); heads = sizes .heads };
       fit = rw (length-set (w .ledger) (portOf w) (mv .entry)) (moves .fit);
       count = rw (moves .call) (let a = k .count in let b = moves .more in omega arith);
       guestQueue = k .guestQueue;
+      clearWord = k .clearWord;
       order = order-answer h (HypervisorAccess (w .domain .call) acc seen ∷ []) (a .lists) order (nextOf n (moved (w .domain) mv) (mv .answer) (mv .count));
     };
     bounds = (bounds (let a = k .count in omega arith), answer-bounds n _ (mv .answer) (mv .count) (record { linkNotAbandoned = moves .answer; accesses = let a = k .count in let b = moves .count in omega arith }));
@@ -171,10 +168,12 @@ isBounded stage.First = false
 isBounded stage.R2 = false
 isBounded stage.R3 = false
 isBounded stage.R4 = true
+isBounded stage.SetBusy = false
+isBounded stage.ClearBusy = false
 isBounded stage.R5 = false
 isBounded stage.R6 = true
 
-pub no-bounds : (c : calls.Call) (seen : ℕ) → isBounded (c .stage) ≡ false → c .count ≤ 5 + mostTries → AccessBounds c seen
+pub no-bounds : (c : calls.Call) (seen : ℕ) → isBounded (c .stage) ≡ false → c .count ≤ 7 + mostTries → AccessBounds c seen
 no-bounds c seen e l = record { accesses = l; fewTries = λ d. clash (ap isBounded d) e; bitClear = λ d. clash (ap isBounded d) e }
 
 abbrev isR6 : Stage → Bool
@@ -182,20 +181,22 @@ isR6 stage.First = false
 isR6 stage.R2 = false
 isR6 stage.R3 = false
 isR6 stage.R4 = false
+isR6 stage.SetBusy = false
+isR6 stage.ClearBusy = false
 isR6 stage.R5 = false
 isR6 stage.R6 = true
 
-pub tries-bound : (c : calls.Call) (seen : ℕ) → c .stage ≡ stage.R4 → c .tries ≤ mostTries → c .count ≤ 5 + mostTries → AccessBounds c seen
+pub tries-bound : (c : calls.Call) (seen : ℕ) → c .stage ≡ stage.R4 → c .tries ≤ mostTries → c .count ≤ 7 + mostTries → AccessBounds c seen
 tries-bound c seen e h l = record { accesses = l; fewTries = λ d. h; bitClear = λ d. clash (ap isR6 d) (ap isR6 e) }
 
-pub bit-bound : (c : calls.Call) (seen : ℕ) → c .stage ≡ stage.R6 → isReady (c .queue .0) seen ≡ false → c .count ≤ 5 + mostTries → AccessBounds c seen
+pub bit-bound : (c : calls.Call) (seen : ℕ) → c .stage ≡ stage.R6 → isReady (c .queue .0) seen ≡ false → c .count ≤ 7 + mostTries → AccessBounds c seen
 bit-bound c seen e h l = record { accesses = l; fewTries = λ d. clash (ap isR6 e) (ap isR6 d); bitClear = λ d. h }
 
 module _ {n : ℕ} (w : World) (h : List Event) {c : Call} (k : Core n w c (guestCallOf (w .guest .call)) h) (acc : Access) (seen p x : ℕ) (mv : Move) (to : Call)
-    (reply : QuietMoves n (length (w .ledger)) (entryOf w) (w .domain .call) to mv) (less : madeBy c < madeBy to) (few : madeBy c < 5 + mostTries)
-    (quietly : (q : ℕ) → takenIn q (HypervisorAccess (w .domain .call) acc seen ∷ []) ≡ []) (bounds : w .domain .call .count ≤ 5 + mostTries → AccessBounds (w .domain .call) seen) where
+    (reply : QuietMoves n (length (w .ledger)) (entryOf w) (w .domain .call) to mv) (less : madeBy c < madeBy to) (few : madeBy c < 7 + mostTries)
+    (quietly : (q : ℕ) → takenIn q (HypervisorAccess (w .domain .call) acc seen ∷ []) ≡ []) (bounds : w .domain .call .count ≤ 7 + mostTries → AccessBounds (w .domain .call) seen) where
   -- word p is written
-  pub put-kept : (y : Word) → p < 1024 * w .domain .pages → x < 2 ^ 32 → decoded n x ≡ y → Inv (put (viewOf n w) p y) to (guestsOf w) (k .lists)
+  pub put-kept : (y : Word) → p < 1024 * w .domain .pages → x < 2 ^ 32 → decoded n x ≡ y → Inv (put (viewOf n w) p y) to (guestsOf w) (clearsOf n w) (k .lists)
       → Kept n (carried n w acc seen (memory (set (w .memory .words) p x) (w .memory .block)) mv) h
   put-kept y lt small e i =
       kept w h k acc seen (memory (set (w .memory .words) p x) (w .memory .block)) mv (record { view = put (viewOf n w) p y; call = to; lists = k .lists }) i
@@ -204,7 +205,7 @@ module _ {n : ℕ} (w : World) (h : List Event) {c : Call} (k : Core n w c (gues
       (reply .moves) (sizes-word (k .sizes) p x small) less few (order-quiet h _ (k .lists) (k .order) quietly (λ q. refl)) bounds
 
   -- word p is read
-  pub read-kept : x ≡ getD (w .memory .words) p 0 → Inv (viewOf n w) to (guestsOf w) (k .lists)
+  pub read-kept : x ≡ getD (w .memory .words) p 0 → Inv (viewOf n w) to (guestsOf w) (clearsOf n w) (k .lists)
       → Kept n (carried n w acc seen (memory (set (w .memory .words) p x) (w .memory .block)) mv) h
   read-kept e i =
       let same : set (w .memory .words) p x ≡ w .memory .words = ap (set (w .memory .words) p) e ∙ set-getD (w .memory .words) p 0 in

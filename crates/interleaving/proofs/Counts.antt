@@ -19,6 +19,7 @@ use Rattle.calls.specs.declared.types.Next.{Next}
 use Rattle.calls.specs.declared.types.Next.the-variants as next
 use Rattle.calls.specs.declared.types.Masking.{Masking}
 use Rattle.calls.specs.declared.types.Masking.the-variants as masking
+use Rattle.calls.specs.declared.types.GuestOutcome.{GuestOutcome}
 use Rattle.calls.specs.declared.types.Owner.{Owner}
 use Rattle.calls.specs.declared.types.Owner.the-variants as owner
 use Rattle.calls.specs.declared.types.Stage.{Stage}
@@ -31,15 +32,17 @@ use Rattle.calls.specs.declared.hypervisor.start.Acceptance.{Acceptance}
 use Rattle.calls.specs.declared.hypervisor.start.Acceptance.the-variants as acceptance
 use Rattle.calls.specs.declared.hypervisor.start.Begin.{Begin}
 use Rattle.calls.specs.declared.hypervisor.start.Begin.the-variants as begin
-use Rattle.calls.specs.Guest.{guestDueOf, serviceStart, serviceReply, maskOf, tellOf}
+use Rattle.calls.specs.Guest.{serviceStart, maskOf, tellOf}
+use Rattle.calls.specs.ClearMask.{clearMaskStart, guestReply, guestDueOf}
 use Rattle.calls.specs.Hypervisor as hypervisor
 use Rattle.machine.specs.Memory.{Memory, performed}
 use Rattle.machine.specs.Exec as Exec
-use Rattle.machine.specs.Exec.{World, Advanced, worldAfter, stepOf, listOf, guestAnswer, guestStep, startStep, turned, guestStartOf, performMasking, performMask, performGuestNext, performGuest, performSide, handBack, expandOf, startOf, advanceOf, exec, execAll}
+use Rattle.machine.specs.Exec.{World, Advanced, worldAfter, stepOf, listOf, guestAnswer, guestStep, guestReplied, startStep, turned, guestStartOf, guestAccess, performMasking, performMask, performGuestNext, performGuest, performSide, handBack, expandOf, startOf, advanceOf, exec, execAll}
 use Rattle.machine.specs.declared.types.Start.{Start}
 use Rattle.machine.specs.declared.types.Start.the-variants.{InitControl, ExpandArray, Bind, Close, SetPriority, Raise, Unmask}
-use Rattle.machine.specs.declared.types.GuestStart.the-variants.{Service, Mask, Tell}
+use Rattle.machine.specs.declared.types.GuestStart.the-variants.{Service, Mask, ClearMask, Tell}
 use Rattle.machine.specs.declared.types.Event.{Event}
+use Rattle.machine.specs.declared.types.Event.the-variants.{Nothing, GuestAccess, ClearAccess}
 use Rattle.queue.specs.Budget.{mostTries}
 use Rattle.machine.specs.declared.types.Side.the-variants as side
 use Rattle.machine.specs.declared.types.Step.{Step}
@@ -48,14 +51,14 @@ use Rattle.interleaving.specs.Fresh.{freshWorld}
 use Rattle.interleaving.specs.Rules.{Allowed, KeepsRules}
 use Rattle.interleaving.specs.Counts.{Counted, CountsOfEvents}
 use Rattle.interleaving.proofs.Good.{Good, Kept}
-use Rattle.interleaving.proofs.Steps.{reply-free, perform-free, reply-none, step-kept}
+use Rattle.interleaving.proofs.Steps.{reply-free, perform-free, step-kept}
 use Rattle.interleaving.proofs.Theorem.{fresh-good}
 use Rattle.interleaving.proofs.Carried.{carried, perform-carried}
 use Rattle.interleaving.proofs.Starts.{BeginFacts, port-facts, bind-facts, close-facts, priority-facts, link-facts}
-use Rattle.calls.specs.Records.{oneMore, isFree, entryAt}
+use Rattle.calls.specs.Records.{oneMore, isFree, isClearing, entryAt}
 use Rattle.word.specs.Entry.{priority}
 use Rattle.queue.proofs.Cases.{clash, by-cond}
-use Rattle.calls.specs.Hypervisor.{ends, replyFirstOf, endsTailed, named, replyR1, replyU1, replyBind, replyClose, replyFirst, afterR2, replyR2, triesCas, replyR4, replyR5, replyR6, stagedAt, staged, answered, nextOf, moved, acceptInit, acceptExpand, acceptPort, beginBind, beginClose, beginPriority, beginLink, initControlOf, initControl, expandArrayOf, expandArray, bindStart, closeStart, setPriority, raiseStart, unmaskStart}
+use Rattle.calls.specs.Hypervisor.{ends, replyFirstOf, endsTailed, named, replyR1, replyU1, replyBind, replyClose, replyFirst, afterR2, replyR2, replyR3, afterFirstCas, afterLaterCas, replyR4, replySetBusy, replyClearBusy, replyR5, replyR6, stagedAt, staged, answered, nextOf, moved, acceptInit, acceptExpand, acceptPort, beginBind, beginClose, beginPriority, beginLink, initControlOf, initControl, expandArrayOf, expandArray, bindStart, closeStart, setPriority, raiseStart, unmaskStart}
 
 -- a reply ends the call with its count, or counts one access more
 record Counts (c : Call) (mv : Move) : Type 0 where
@@ -74,9 +77,15 @@ module _ (c : Call) (busy : isFree (c .owner) ≡ false) where
   goes-counts : (mv : Move) → mv .call .owner ≡ c .owner → mv .call .count ≡ oneMore (c .count) → Counts c mv
   goes-counts mv o e = record { ended = λ d. clash d (rw o busy); more = λ d. e }
 
-  tries-counts : (e tries seen : ℕ) → Counts c (triesCas c e tries seen)
-  unfolding triesCas
-  tries-counts e tries seen = by-cond (Counts c) (not (has Linked seen)) _ _ (λ d. goes-counts _ refl refl) (λ d. by-cond (Counts c) (leb 4 tries) _ _ (λ f. tailed-counts e _) (λ f. goes-counts _ refl refl))
+  -- the call goes on either way
+  either-counts : (b : Bool) (x y : Move) → x .call .owner ≡ c .owner → x .call .count ≡ oneMore (c .count) → y .call .owner ≡ c .owner → y .call .count ≡ oneMore (c .count) → Counts c (cond b x y)
+  either-counts b x y o e o′ e′ = by-cond (Counts c) b x y (λ d. goes-counts x o e) (λ d. goes-counts y o′ e′)
+
+  cas-counts : (e seen : ℕ) → Counts c (replyR4 c e seen)
+  unfolding replyR4 afterFirstCas afterLaterCas
+  cas-counts e seen = by-cond (Counts c) (casTaken seen (c .word)) _ _ (λ d. tailed-counts e Done)
+      (λ d. by-cond (Counts c) (leb (c .tries) 1) _ _ (λ f. either-counts (not (has Linked seen)) _ _ refl refl refl refl)
+      (λ f. by-cond (Counts c) (not (has Linked seen)) _ _ (λ l. goes-counts _ refl refl) (λ l. either-counts (leb 5 (c .tries)) _ _ refl refl refl refl)))
 
   first-counts : (o : Owner) → c .owner ≡ o → (e seen : ℕ) → Counts c (replyFirstOf o c e seen)
   unfolding replyR1 replyU1 replyBind replyClose isFree
@@ -87,7 +96,7 @@ module _ (c : Call) (busy : isFree (c .owner) ≡ false) where
   first-counts owner.Unmask o e seen = by-cond (Counts c) (not (has Pending seen)) _ _ (λ d. ends-counts e Done) (λ d. by-cond (Counts c) (has Linked seen) _ _ (λ f. ends-counts e Done) (λ f. goes-counts _ refl refl))
 
   stage-counts : (s : Stage) (e : ℕ) (v : View) (seen : ℕ) → Counts c (stagedAt s c e v seen)
-  unfolding replyFirst replyR2 afterR2 replyR4 replyR5 replyR6
+  unfolding replyFirst replyR2 afterR2 replyR3 replySetBusy replyClearBusy replyR5 replyR6
   stage-counts stage.First e v seen = first-counts (c .owner) refl e seen
   stage-counts stage.R2 e v seen = by-cond (Counts c) (has Linked seen) _ _ (λ d. ends-counts e Done)
       (λ d. goes-counts _ (after (λ z. z .owner ≡ c .owner) refl refl) (after (λ z. z .count ≡ oneMore (c .count)) refl refl))
@@ -97,8 +106,10 @@ module _ (c : Call) (busy : isFree (c .owner) ≡ false) where
 
       after : (P : Call → Type 0) → P (named c stage.R5 (queueAt (priority e))) → P (named c stage.R3 (queueAt (priority e))) → P (cond (eqb t 0) (named c stage.R5 (queueAt (priority e))) (cond (eqb t (c .port .0)) (named c stage.R5 (queueAt (priority e))) (named c stage.R3 (queueAt (priority e)))))
       after P a b = by-cond P (eqb t 0) _ _ (λ d. a) (λ d. by-cond P (eqb t (c .port .0)) _ _ (λ f. a) (λ f. b))
-  stage-counts stage.R3 e v seen = tries-counts e 0 seen
-  stage-counts stage.R4 e v seen = by-cond (Counts c) (casTaken seen (c .word)) _ _ (λ d. tailed-counts e Done) (λ d. tries-counts e (c .tries) seen)
+  stage-counts stage.R3 e v seen = either-counts (not (has Linked seen)) _ _ refl refl refl refl
+  stage-counts stage.R4 e v seen = cas-counts e seen
+  stage-counts stage.SetBusy e v seen = either-counts (not (has Linked seen)) _ _ refl refl refl refl
+  stage-counts stage.ClearBusy e v seen = by-cond (Counts c) (has Linked (c .word)) _ _ (λ d. tailed-counts e _) (λ d. goes-counts _ refl refl)
   stage-counts stage.R5 e v seen = goes-counts _ refl refl
   stage-counts stage.R6 e v seen = by-cond (Counts c) (isReady (c .queue .0) seen) _ _ (λ d. ends-counts e Done) (λ d. ends-counts e _)
 
@@ -121,21 +132,26 @@ guest-quiet made (next.Access a) es c = c
 guest-quiet made (next.Answer a count) es c = c
 
 module _ (n : ℕ) {made : ℕ} (w : World) (s : State made (w .domain .call)) where
-  service-counts : CountsStep made (guestStep w (guestStartOf n (w .guest) (w .memory) Service))
-  unfolding guestStartOf
-  service-counts = record { after = made; state = s; counted = guest-quiet made (serviceStart n (w .guest) .next) }
-
-  tell-counts : (words : ℕ) → CountsStep made (guestStep w (guestStartOf n (w .guest) (w .memory) (Tell words)))
-  unfolding guestStartOf
-  tell-counts words = record { after = made; state = s; counted = guest-quiet made (tellOf (w .guest) words .next) }
+  -- one with no access
+  guest-counts : (o : GuestOutcome) → CountsStep made (guestStep w (guestReplied o Nothing (w .memory)))
+  guest-counts o = record { after = made; state = s; counted = guest-quiet made (o .next) }
 
   masking-counts : (x : Masking) → CountsStep made (guestStep w (performMasking (w .guest) (w .memory) x))
   masking-counts (masking.Refused a count) = record { after = made; state = s; counted = λ es c. c }
   masking-counts (masking.Made access a count) = record { after = made; state = s; counted = λ es c. c }
 
   perform-guest-counts : (x : Next) → CountsStep made (guestStep w (performGuestNext n (w .guest) (w .memory) x))
-  perform-guest-counts (next.Access a) = record { after = made; state = s; counted = guest-quiet made (serviceReply n (w .guest) (performed (w .memory) a .seen) .next) }
-  perform-guest-counts (next.Answer a count) = record { after = made; state = s; counted = guest-quiet made (serviceReply n (w .guest) 0 .next) }
+  unfolding guestAccess
+  perform-guest-counts (next.Access a) =
+      let seen : ℕ = performed (w .memory) a .seen in
+      let reply : Next = guestReply n (w .guest) seen .next in
+      record {
+        after = made;
+        state = s;
+        counted = λ es c. by-cond (λ x. Counted made ((listOf x ++ listOf (guestAnswer reply)) ++ es)) (isClearing (w .guest .clear .stage)) (ClearAccess (w .guest .clear) a seen) (GuestAccess (w .guest .call) a seen)
+            (λ e. guest-quiet made reply es c) (λ e. guest-quiet made reply es c);
+      }
+  perform-guest-counts (next.Answer a count) = guest-counts (guestReply n (w .guest) 0)
 
   -- ---- the hypervisor's starts: an answer at once counts 0
   refused-counts : (a : Answer) (given : Bool) (pages : ℕ) (ledger words : List ℕ)
@@ -171,15 +187,15 @@ module _ (n : ℕ) {made : ℕ} (w : World) (s : State made (w .domain .call)) w
   start-counts (Raise p) = started-counts owner.Raise p refl _ (link-facts n (w .domain .pages) (w .ledger) (w .domain .call .owner) p owner.Raise (acceptPort n (w .domain .call .owner) (w .domain .given) p (entryAt (w .ledger) (p .0))) (port-facts n (w .domain .pages) (w .ledger) (w .domain .call .owner) owner.Raise p (w .domain .given)))
   start-counts (Unmask p) = started-counts owner.Unmask p refl _ (link-facts n (w .domain .pages) (w .ledger) (w .domain .call .owner) p owner.Unmask (acceptPort n (w .domain .call .owner) (w .domain .given) p (entryAt (w .ledger) (p .0))) (port-facts n (w .domain .pages) (w .ledger) (w .domain .call .owner) owner.Unmask p (w .domain .given)))
 
-  -- ---- an access of the call under way, which is among the first eight
-  carried-counts : (a : Access) (seen : ℕ) (m : Memory) (mv : Move) → isFree (w .domain .call .owner) ≡ false → w .domain .call .count ≤ 5 + mostTries → Counts (w .domain .call) mv → CountsStep made (carried n w a seen m mv)
+  -- ---- an access of the call under way, which is among the first eleven
+  carried-counts : (a : Access) (seen : ℕ) (m : Memory) (mv : Move) → isFree (w .domain .call .owner) ≡ false → w .domain .call .count ≤ 7 + mostTries → Counts (w .domain .call) mv → CountsStep made (carried n w a seen m mv)
   unfolding moved nextOf oneMore
   carried-counts a seen m mv b few k = go (isFree (mv .call .owner)) refl
     where
       now : suc made ≡ w .domain .call .count
       now = let x = s .before in let y = s .busy b in omega arith
 
-      bound : suc made ≤ 5 + mostTries
+      bound : suc made ≤ 7 + mostTries
       bound = let x = now in omega arith
 
       exact : isFree (mv .call .owner) ≡ false → mv .call .count ≡ w .domain .call .count + 1
@@ -200,8 +216,8 @@ module _ (n : ℕ) {made : ℕ} (w : World) (s : State made (w .domain .call)) w
       go false e = rw e (record { after = suc made; state = record { before = next-made e; idle = λ d. clash d e; busy = λ d. next-busy e }; counted = λ es c. (bound, c) })
 
 -- ---- steps
--- where the hypervisor's call makes an access, it is among the first eight
-access-few : (n : ℕ) (w : World) (h : List Event) → isFree (w .domain .call .owner) ≡ false → w .domain .call .port .0 < length (w .ledger) → Kept n (performSide n w side.Hypervisor) h → w .domain .call .count ≤ 5 + mostTries
+-- where the hypervisor's call makes an access, it is among the first eleven
+access-few : (n : ℕ) (w : World) (h : List Event) → isFree (w .domain .call .owner) ≡ false → w .domain .call .port .0 < length (w .ledger) → Kept n (performSide n w side.Hypervisor) h → w .domain .call .count ≤ 7 + mostTries
 access-few n w h b e k = (subst (λ a. Kept n a h) (perform-carried n w b e) k) .bounds .0 .accesses
 
 module _ {n : ℕ} (wide : Width n) {made : ℕ} (w : World) (h : List Event) (k : Good n w h) (s : State made (w .domain .call)) where
@@ -214,13 +230,14 @@ module _ {n : ℕ} (wide : Width n) {made : ℕ} (w : World) (h : List Event) (k
   step-counts : (z : Step) → Allowed w z → CountsStep made (advanceOf n w z)
   unfolding advanceOf guestStartOf performMask performSide performGuest handBack
   step-counts (step.Hypervisor z) a = start-counts n w s z
-  step-counts (step.Guest Service) a = service-counts n w s
+  step-counts (step.Guest Service) a = guest-counts n w s (serviceStart n (w .guest))
   step-counts (step.Guest (Mask p)) a = masking-counts n w s (maskOf n p (w .guest .words))
-  step-counts (step.Guest (Tell words)) a = tell-counts n w s words
+  step-counts (step.Guest (ClearMask p)) a = guest-counts n w s (clearMaskStart n (w .guest) p)
+  step-counts (step.Guest (Tell words)) a = guest-counts n w s (tellOf (w .guest) words)
   step-counts (step.Perform side.Hypervisor) a = perform-counts (isFree (w .domain .call .owner)) refl
   step-counts (step.Perform side.Guest) a = perform-guest-counts n w s (guestDueOf n (w .guest))
   step-counts (step.HandBack side.Hypervisor word) a = rw (reply-free n w word a) (refused-counts n w s NoCall (w .domain .given) (w .domain .pages) (w .ledger) (w .memory .words))
-  step-counts (step.HandBack side.Guest word) a = rw (reply-none n w word a) (record { after = made; state = s; counted = λ es c. c })
+  step-counts (step.HandBack side.Guest word) a = guest-counts n w s (guestReply n (w .guest) word)
 
 steps-counts : {n : ℕ} → Width n → {made : ℕ} (w : World) (h : List Event) (ss : List Step) → Good n w h → State made (w .domain .call) → KeepsRules n w ss → Counted made (execAll n w ss .events)
 unfolding execAll

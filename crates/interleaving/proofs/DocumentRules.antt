@@ -6,7 +6,7 @@ use mathlib.Core.List.{List, [], _∷_}
 use Prim.Native.Nat.{ℕ, _+_, _≤_, zero-le}
 use native.Mathlib.Nat.{le-refl}
 use native.Mathlib.Omega.{arith}
-use lib.Dec.{eqb, ltb}
+use lib.Dec.{eqb, ltb, leb}
 use borrow.Author.Tests.{ltb-true, ltb-false, eqb-true}
 use Rattle.word.specs.declared.Port.{Port}
 use Rattle.word.specs.Word.{Width}
@@ -23,15 +23,16 @@ use Rattle.calls.specs.declared.hypervisor.start.Acceptance.{Acceptance}
 use Rattle.calls.specs.declared.hypervisor.start.Acceptance.the-variants as acceptance
 use Rattle.calls.specs.declared.hypervisor.start.Begin.{Begin}
 use Rattle.calls.specs.declared.hypervisor.start.Begin.the-variants as begin
-use Rattle.calls.specs.Records.{oneMore, entryAt, isFree}
+use Rattle.calls.specs.Records.{oneMore, isPort, entryAt, isFree, isClearing}
 use Rattle.calls.specs.Hypervisor.{Turn, acceptExpand, initControlOf, initControl, expandArrayOf, expandArray, bindStart, closeStart, setPriority, raiseStart, unmaskStart, started, moved, dueOf, replyFound, replyOf}
-use Rattle.calls.specs.Guest.{isServing, serviceStart, guestMoved, serviceReply, guestDueOf, maskOf, tellOf}
+use Rattle.calls.specs.Guest.{isServing, serviceStart, guestMoved, serviceReply, maskOf, tellOf}
+use Rattle.calls.specs.ClearMask.{clearMaskStart, guestReply, guestDueOf}
 use Rattle.machine.specs.Memory.{Memory}
 use Rattle.machine.specs.Exec.{World, exec, advanceOf, expandOf, startOf, performSide, performHypervisorNext, performHypervisor, performGuestNext, performGuest, performMasking, performMask, guestStartOf, handBack}
 use Rattle.machine.specs.declared.types.Side.the-variants as side
 use Rattle.machine.specs.declared.types.Start.{Start}
 use Rattle.machine.specs.declared.types.Start.the-variants.{InitControl, ExpandArray, Bind, Close, SetPriority, Raise, Unmask}
-use Rattle.machine.specs.declared.types.GuestStart.the-variants.{Service, Mask, Tell}
+use Rattle.machine.specs.declared.types.GuestStart.the-variants.{Service, Mask, ClearMask, Tell}
 use Rattle.machine.specs.declared.types.Step.{Step}
 use Rattle.machine.specs.declared.types.Step.the-variants as step
 use Rattle.queue.proofs.Cases.{clash, by-cond, or-none}
@@ -80,17 +81,26 @@ perform-pages n d ledger m (next.Access a) = reply-pages n d ledger _
 perform-pages n d ledger m (next.Answer a count) = reply-pages n d ledger 0
 
 -- ---- only a tell changes the guest's number of words
-service-words : (n : ℕ) (g : Guest) → serviceStart n g .guest .words ≡ g .words
-unfolding serviceStart
-service-words n g = by-cond (λ (o : GuestOutcome). o .guest .words ≡ g .words) (isServing (g .call .stage)) _ _ (λ e. refl) (λ e. refl)
+module _ (n : ℕ) (g : Guest) where
+  abbrev SameWords : GuestOutcome → Type 0
+  SameWords o = o .guest .words ≡ g .words
 
-served-words : (n : ℕ) (g : Guest) (seen : ℕ) → serviceReply n g seen .guest .words ≡ g .words
-unfolding serviceReply guestMoved
-served-words n g seen = by-cond (λ (o : GuestOutcome). o .guest .words ≡ g .words) (not (isServing (g .call .stage))) _ _ (λ e. refl) (λ e. refl)
+  service-words : SameWords (serviceStart n g)
+  unfolding serviceStart
+  service-words = by-cond SameWords (isClearing (g .clear .stage)) _ _ (λ e. refl) (λ e. by-cond SameWords (isServing (g .call .stage)) _ _ (λ e. refl) (λ e. refl))
 
-perform-words : (n : ℕ) (g : Guest) (m : Memory) (x : Next) → performGuestNext n g m x .turn .outcome .guest .words ≡ g .words
-perform-words n g m (next.Access a) = served-words n g _
-perform-words n g m (next.Answer a count) = served-words n g 0
+  clear-words : (p : Port) → SameWords (clearMaskStart n g p)
+  unfolding clearMaskStart
+  clear-words p = by-cond SameWords (isClearing (g .clear .stage)) _ _ (λ e. refl)
+      (λ e. by-cond SameWords (not (isPort n (p .0))) _ _ (λ e. refl) (λ e. by-cond SameWords (leb (g .words) (p .0)) _ _ (λ e. refl) (λ e. refl)))
+
+  reply-words : (seen : ℕ) → SameWords (guestReply n g seen)
+  unfolding guestReply serviceReply guestMoved
+  reply-words seen = by-cond SameWords (isClearing (g .clear .stage)) _ _ (λ e. refl) (λ e. by-cond SameWords (not (isServing (g .call .stage))) _ _ (λ e. refl) (λ e. refl))
+
+  perform-words : (m : Memory) (x : Next) → SameWords (performGuestNext n g m x .turn .outcome)
+  perform-words m (next.Access a) = reply-words _
+  perform-words m (next.Answer a count) = reply-words 0
 
 mask-words : (g : Guest) (m : Memory) (x : Masking) → performMasking g m x .turn .outcome .guest .words ≡ g .words
 mask-words g m (masking.Refused a count) = refl
@@ -132,16 +142,18 @@ unfolding advanceOf performSide performHypervisor performGuest performMask guest
 follows-step n due w (step.Hypervisor s) a f = quiet due w _ (step.Hypervisor s) a (start-pages n (w .domain) (w .ledger) (w .memory .words) s) refl f
 follows-step n due w (step.Guest Service) a f = quiet due w _ (step.Guest Service) a (le-refl (w .domain .pages)) (service-words n (w .guest)) f
 follows-step n due w (step.Guest (Mask p)) a f = quiet due w _ (step.Guest (Mask p)) a (le-refl (w .domain .pages)) (mask-words (w .guest) (w .memory) (maskOf n p (w .guest .words))) f
+follows-step n due w (step.Guest (ClearMask p)) a f = quiet due w _ (step.Guest (ClearMask p)) a (le-refl (w .domain .pages)) (clear-words n (w .guest) p) f
 follows-step n due w (step.Guest (Tell words)) a f = told-now n due w words a f
 follows-step n due w (step.Perform side.Hypervisor) a f = quiet due w _ (step.Perform side.Hypervisor) a (rw (perform-pages n (w .domain) (w .ledger) (w .memory) (dueOf n (w .domain))) (le-refl (w .domain .pages))) refl f
 follows-step n due w (step.Perform side.Guest) a f = quiet due w _ (step.Perform side.Guest) a (le-refl (w .domain .pages)) (perform-words n (w .guest) (w .memory) (guestDueOf n (w .guest))) f
 follows-step n due w (step.HandBack side.Hypervisor word) a f = quiet due w _ (step.HandBack side.Hypervisor word) (a .0) (rw (reply-pages n (w .domain) (w .ledger) word) (le-refl (w .domain .pages))) refl f
-follows-step n due w (step.HandBack side.Guest word) a f = quiet due w _ (step.HandBack side.Guest word) (a .0) (le-refl (w .domain .pages)) (served-words n (w .guest) word) f
+follows-step n due w (step.HandBack side.Guest word) a f = quiet due w _ (step.HandBack side.Guest word) (a .0) (le-refl (w .domain .pages)) (reply-words n (w .guest) word) f
 
 allowed : (due : Bool) (w : World) (s : Step) → Follows due w → AllowedByDocument due w s → Allowed w s
 allowed due w (step.Hypervisor s) f a = tt
 allowed due w (step.Guest Service) f a = f .told a
 allowed due w (step.Guest (Mask p)) f a = f .told a
+allowed due w (step.Guest (ClearMask p)) f a = f .told a
 allowed due w (step.Guest (Tell words)) f a = a
 allowed due w (step.Perform side.Hypervisor) f a = tt
 allowed due w (step.Perform side.Guest) f a = f .told a

@@ -8,23 +8,23 @@ use native.Mathlib.Omega.{arith}
 use lib.Dec.{leb}
 use lib.ListN.{set, replicate, length-replicate, length-append}
 use borrow.Author.Tests.{leb-true, not-true}
-use Rattle.word.specs.declared.Flag.the-variants.{Linked}
+use Rattle.word.specs.declared.Flag.the-variants.{Linked, Busy}
 use Rattle.word.specs.Word.{linkBits, linkBits-width, has, portAt, queueAt}
 use Rattle.word.proofs.ReadyLaws.{ready-zero}
-use Rattle.calls.specs.declared.types.Answer.the-variants.{CallUnderWay, NoCall}
+use Rattle.calls.specs.declared.types.Answer.the-variants.{Done, CallUnderWay, NoCall, CallUnmask}
 use Rattle.calls.specs.declared.types.Owner.the-variants as owner
 use Rattle.calls.specs.declared.types.Stage.the-variants as stage
 use Rattle.calls.specs.declared.types.Call.{Call}
 use Rattle.calls.specs.declared.types.GuestStage.the-variants as guestStage
 use Rattle.calls.specs.declared.types.GuestCall.{GuestCall}
-use Rattle.calls.specs.Records.{isFree, callAt, idleCall, guestCallAt, guestIdle}
+use Rattle.calls.specs.Records.{isFree, callAt, idleCall, guestCallAt, guestIdle, isClearing, clearIdle}
 use Rattle.calls.specs.Guest.{isServing}
 use Rattle.machine.specs.Memory.{memory, zeroPage}
 use Rattle.machine.specs.Exec.{World, exec, execAll}
 use Rattle.machine.specs.Computes.{runs}
 use Rattle.machine.specs.declared.types.Side.the-variants as side
 use Rattle.machine.specs.declared.types.Start.the-variants.{Raise}
-use Rattle.machine.specs.declared.types.GuestStart.the-variants.{Service, Mask, Tell}
+use Rattle.machine.specs.declared.types.GuestStart.the-variants.{Service, Mask, ClearMask, Tell}
 use Rattle.machine.specs.declared.types.Step.{Step}
 use Rattle.machine.specs.declared.types.Step.the-variants as step
 use Rattle.machine.specs.declared.types.Event.{Event}
@@ -39,7 +39,8 @@ use Rattle.interleaving.specs.Standing.{readyWord, startOf, Standing}
 use Rattle.interleaving.specs.Held.{HeldByLinker, HeldByGuest}
 use Rattle.interleaving.specs.Claim.{Rest}
 use Rattle.interleaving.specs.Demand3.{Demand3ByDocument}
-use Rattle.interleaving.specs.Example.{linking, refusedStart, refusedReply, raising, unmasking, expanding, serving, ending, raised, taking, example, start, OnNoQueue, ExampleHolds, ExampleClaim}
+use Rattle.interleaving.specs.Busy.{HasSetBusy}
+use Rattle.interleaving.specs.Example.{linking, refusedStart, refusedReply, raising, unmasking, expanding, clearing, marking, leaving, serving, holding, ending, raised, grown, marked, taking, example, start, answers, OnNoQueue, ExampleHolds, ExampleClaim}
 use Rattle.interleaving.proofs.HistoryLaws.{taken-append, given-append}
 use Rattle.interleaving.proofs.DocumentRules.{demand3-by-document}
 
@@ -48,19 +49,24 @@ abbrev passes : Bool → World → Step → Bool
 passes due w (step.Hypervisor s) = not due
 passes due w (step.Guest Service) = not due
 passes due w (step.Guest (Mask p)) = not due
+passes due w (step.Guest (ClearMask p)) = not due
 passes due w (step.Guest (Tell words)) = leb words (arrayWords w)
 passes due w (step.Perform s) = not due
 passes due w (step.HandBack side.Hypervisor word) = not due && isFree (w .domain .call .owner)
-passes due w (step.HandBack side.Guest word) = not due && not (isServing (w .guest .call .stage))
+passes due w (step.HandBack side.Guest word) = not due && (not (isServing (w .guest .call .stage)) && not (isClearing (w .guest .clear .stage)))
 
 pass-allowed : (due : Bool) (w : World) (s : Step) → passes due w s ≡ true → AllowedByDocument due w s
 pass-allowed due w (step.Hypervisor s) e = not-true due e
 pass-allowed due w (step.Guest Service) e = not-true due e
 pass-allowed due w (step.Guest (Mask p)) e = not-true due e
+pass-allowed due w (step.Guest (ClearMask p)) e = not-true due e
 pass-allowed due w (step.Guest (Tell words)) e = leb-true words (arrayWords w) e
 pass-allowed due w (step.Perform s) e = not-true due e
 pass-allowed due w (step.HandBack side.Hypervisor word) e = let d = and-both (not due) _ e in (not-true due (d .0), d .1)
-pass-allowed due w (step.HandBack side.Guest word) e = let d = and-both (not due) _ e in (not-true due (d .0), not-true (isServing (w .guest .call .stage)) (d .1))
+pass-allowed due w (step.HandBack side.Guest word) e =
+    let d = and-both (not due) _ e in
+    let f = and-both (not (isServing (w .guest .call .stage))) (not (isClearing (w .guest .clear .stage))) (d .1) in
+    (not-true due (d .0), record { service = not-true (isServing (w .guest .call .stage)) (f .0); clear = not-true (isClearing (w .guest .clear .stage)) (f .1) })
 
 abbrev allPass : ℕ → Bool → World → List Step → Bool
 allPass n due w [] = true
@@ -144,7 +150,7 @@ abbrev world : (pages words : ℕ) (tails : List ℕ) → Call → List ℕ → 
 world pages words tails c ledger heads local s memory-words block = record {
   domain = record { given = true; pages = pages; tails = tails; call = c };
   ledger = ledger;
-  guest = record { heads = heads; ready = local; words = words; call = s };
+  guest = record { heads = heads; ready = local; words = words; call = s; clear = clearIdle };
   memory = memory memory-words block;
 }
 
@@ -165,8 +171,8 @@ module _ (rest : List ℕ) where
   abbrev page : ℕ → ℕ → List ℕ
   page five nine = set (set (zeroPage 0 (replicate 2048 1 ++ rest)) 5 five) 9 nine
 
-  abbrev pages : ℕ → ℕ → ℕ → List ℕ
-  pages five nine last = set (zeroPage 1 (page five nine)) 1030 last
+  abbrev pages : ℕ → ℕ → ℕ → ℕ → List ℕ
+  pages five nine twelve last = set (set (zeroPage 1 (page five nine)) 12 twelve) 1030 last
 
   abbrev linked : World
   linked = world 1 1024 noTails (callAt owner.Raise stage.R5 (portAt 5) (queueAt 7) 3) oneEntry noTails 0 guestIdle (page 0xA0000000 0) (block 0 0 0)
@@ -178,13 +184,24 @@ module _ (rest : List ℕ) where
   unmasked = world 1 1024 (set noTails 7 5) idleCall twoEntries (set noTails 7 9) 0x80 guestIdle (page 0xA0000000 0xA0000005) (block 0 5 0)
 
   abbrev expanded : World
-  expanded = world 2 2048 (set (set noTails 7 5) 3 1030) idleCall (set twoEntries 1030 0x333) (set noTails 7 9) 0x80 guestIdle (pages 0xA0000000 0xA0000005 0xA0000000) (block 0x8 5 1030)
+  expanded = world 2 2048 (set (set noTails 7 5) 3 1030) idleCall (set twoEntries 1030 0x333) (set noTails 7 9) 0x80 guestIdle (pages 0xA0000000 0xA0000005 0 0xA0000000) (block 0x8 5 1030)
+
+  -- the raise of 12 compares the tail's word with BUSY
+  abbrev busied : World
+  busied = world 2 2048 (set (set noTails 7 5) 3 1030) (record { owner = owner.Raise; stage = stage.R4; port = portAt 12; queue = queueAt 3; word = 0xF0000000; tries = 2; count = 6 })
+      (set (set twoEntries 1030 0x333) 12 0x333) (set noTails 7 9) 0x80 guestIdle (pages 0xA0000000 0xA0000005 0xA0000000 0xF0000000) (block 0x8 5 1030)
+
+  abbrev behind : World
+  behind = world 2 2048 (set (set noTails 7 5) 3 12) idleCall (set (set twoEntries 1030 0x333) 12 0x333) (set noTails 7 9) 0x80 guestIdle (pages 0xA0000000 0xA0000005 0xA0000000 0xA000000C) (block 0x8 5 1030)
+
+  abbrev served : World
+  served = world 2 2048 (set (set noTails 7 5) 3 12) idleCall (set (set twoEntries 1030 0x237) 12 0x333) (set noTails 7 9) 0x80 guestIdle (pages 0xA0000000 0xA0000005 0 0) (block 0 5 1030)
 
   abbrev taken : World
-  taken = world 2 2048 (set (set noTails 7 5) 3 1030) idleCall (set twoEntries 1030 0x237) noTails 0 (guestCallAt guestStage.G3 (portAt 5) (queueAt 7) 3) (pages 0x80000000 0 0) (block 0 5 1030)
+  taken = world 2 2048 (set (set noTails 7 5) 3 12) idleCall (set (set twoEntries 1030 0x237) 12 0x333) noTails 0 (guestCallAt guestStage.G3 (portAt 5) (queueAt 7) 3) (pages 0x80000000 0 0 0) (block 0 5 1030)
 
   abbrev resting : World
-  resting = world 2 2048 (set (set noTails 7 5) 3 1030) idleCall (set twoEntries 1030 0x237) noTails 0 guestIdle (pages 0 0 0) (block 0 5 1030)
+  resting = world 2 2048 (set (set noTails 7 5) 3 12) idleCall (set (set twoEntries 1030 0x237) 12 0x333) noTails 0 guestIdle (pages 0 0 0 0) (block 0 5 1030)
 
   abbrev quiet : Flow
   quiet = record { taken = []; given = []; taken-3 = []; given-3 = [] }
@@ -205,22 +222,44 @@ module _ (rest : List ℕ) where
   unfolding runs
   part-4 = record { is = refl }
 
-  part-5 : Part expanded serving taken (record { taken = []; given = 9 ∷ 5 ∷ []; taken-3 = []; given-3 = 1030 ∷ [] })
+  part-5 : Part expanded clearing expanded quiet
   unfolding runs
   part-5 = record { is = refl }
 
-  part-6 : Part taken ending resting quiet
+  part-6 : Part expanded marking busied quiet
   unfolding runs
   part-6 = record { is = refl }
+
+  part-7 : Part busied leaving behind (record { taken = []; given = []; taken-3 = 12 ∷ []; given-3 = [] })
+  unfolding runs
+  part-7 = record { is = refl }
+
+  part-8 : Part behind serving served (record { taken = []; given = []; taken-3 = []; given-3 = 1030 ∷ 12 ∷ [] })
+  unfolding runs
+  part-8 = record { is = refl }
+
+  part-9 : Part served holding taken (record { taken = []; given = 9 ∷ 5 ∷ []; taken-3 = []; given-3 = [] })
+  unfolding runs
+  part-9 = record { is = refl }
+
+  part-10 : Part taken ending resting quiet
+  unfolding runs
+  part-10 = record { is = refl }
 
   to-standing : Part (start rest) raised standing (record { taken = 5 ∷ 9 ∷ []; given = []; taken-3 = []; given-3 = [] })
   to-standing = then part-1 part-2
 
-  to-taken : Part (start rest) taking taken (record { taken = 5 ∷ 9 ∷ 5 ∷ []; given = 5 ∷ 9 ∷ 5 ∷ []; taken-3 = 1030 ∷ []; given-3 = 1030 ∷ [] })
-  to-taken = then to-standing (then part-3 (then part-4 part-5))
+  to-expanded : Part (start rest) grown expanded (record { taken = 5 ∷ 9 ∷ 5 ∷ []; given = 5 ∷ []; taken-3 = 1030 ∷ []; given-3 = [] })
+  to-expanded = then to-standing (then part-3 part-4)
 
-  to-rest : Part (start rest) example resting (record { taken = 5 ∷ 9 ∷ 5 ∷ []; given = 5 ∷ 9 ∷ 5 ∷ []; taken-3 = 1030 ∷ []; given-3 = 1030 ∷ [] })
-  to-rest = then to-taken part-6
+  to-busied : Part (start rest) marked busied (record { taken = 5 ∷ 9 ∷ 5 ∷ []; given = 5 ∷ []; taken-3 = 1030 ∷ []; given-3 = [] })
+  to-busied = then to-expanded (then part-5 part-6)
+
+  to-taken : Part (start rest) taking taken (record { taken = 5 ∷ 9 ∷ 5 ∷ []; given = 5 ∷ 9 ∷ 5 ∷ []; taken-3 = 1030 ∷ 12 ∷ []; given-3 = 1030 ∷ 12 ∷ [] })
+  to-taken = then to-busied (then part-7 (then part-8 part-9))
+
+  to-rest : Part (start rest) example resting (record { taken = 5 ∷ 9 ∷ 5 ∷ []; given = 5 ∷ 9 ∷ 5 ∷ []; taken-3 = 1030 ∷ 12 ∷ []; given-3 = 1030 ∷ 12 ∷ [] })
+  to-rest = then to-taken part-10
 
   -- ---- what holds of those worlds
 
@@ -239,8 +278,8 @@ module _ (rest : List ℕ) where
   stand = goes refl (λ (e : _≡_ {A = ℕ} 5 0). omega arith) (goes refl (λ (e : _≡_ {A = ℕ} 9 0). omega arith) (ends refl))
 
   at-rest : Rest resting
-  unfolding isFree isServing
-  at-rest = record { hypervisor = refl; guest = refl; local = λ q lt. ready-zero q; ready = λ q lt. ready-zero q }
+  unfolding isFree isServing isClearing
+  at-rest = record { hypervisor = refl; guest = refl; clearing = refl; local = λ q lt. ready-zero q; ready = λ q lt. ready-zero q }
 
   held-by-raise : OnNoQueue linked 5 × (has Linked (wordAt linked 5) ≡ true) × HeldByLinker (linked .domain .call) 5
   unfolding runs
@@ -249,6 +288,18 @@ module _ (rest : List ℕ) where
   held-by-service : OnNoQueue taken 5 × HeldByGuest (taken .guest .call) 5
   unfolding runs
   held-by-service = (record { pending = refl; unmasked = refl; empty = none-stand taken refl refl refl }, record { taken = refl; port = refl })
+
+  clears : answers (execAll linkBits expanded clearing .events) ≡ GuestAnswer Done 1 ∷ GuestAnswer CallUnderWay 0 ∷ GuestAnswer Done 2 ∷ []
+  unfolding runs
+  clears = refl
+
+  busy : HasSetBusy busied 1030 × (has Busy (wordAt busied 1030) ≡ true)
+  unfolding runs
+  busy = (record { linking = refl; stage = refl; tail = refl }, refl)
+
+  leaves : answers (execAll linkBits busied leaving .events) ≡ HypervisorAnswer Done 6 ∷ GuestAnswer CallUnmask 1 ∷ HypervisorAnswer Done 1 ∷ []
+  unfolding runs
+  leaves = refl
 
   fifteen : exec linkBits linked refusedStart .events ≡ HypervisorAnswer CallUnderWay 0 ∷ []
   unfolding runs
@@ -269,6 +320,9 @@ module _ (rest : List ℕ) where
     standing = reached (λ w. Standing linkBits w 7 (5 ∷ 9 ∷ [])) to-standing stand;
     heldByRaise = reached (λ w. OnNoQueue w 5 × (has Linked (wordAt w 5) ≡ true) × HeldByLinker (w .domain .call) 5) part-1 held-by-raise;
     heldByService = reached (λ w. OnNoQueue w 5 × HeldByGuest (w .guest .call) 5) to-taken held-by-service;
+    cleared = reached (λ w. answers (execAll linkBits w clearing .events) ≡ GuestAnswer Done 1 ∷ GuestAnswer CallUnderWay 0 ∷ GuestAnswer Done 2 ∷ []) to-expanded clears;
+    busy = reached (λ w. HasSetBusy w 1030 × (has Busy (wordAt w 1030) ≡ true)) to-busied busy;
+    left = reached (λ w. answers (execAll linkBits w leaving .events) ≡ HypervisorAnswer Done 6 ∷ GuestAnswer CallUnmask 1 ∷ HypervisorAnswer Done 1 ∷ []) to-busied leaves;
     fifteen = reached (λ w. exec linkBits w refusedStart .events ≡ HypervisorAnswer CallUnderWay 0 ∷ []) part-1 fifteen;
     sixteen = reached (λ w. exec linkBits w refusedReply .events ≡ GuestAnswer NoCall 0 ∷ []) part-1 sixteen;
   }

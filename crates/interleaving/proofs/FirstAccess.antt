@@ -64,7 +64,7 @@ module _ {n : ℕ} (wide : Width n) (w : World) (h : List Event) where
           (cond a (ends entry Done (w .domain .call .count)) (cond b (ends entry Done (w .domain .call .count)) (goesOn entry (named (by owner.Raise) stage.R2 (queueAt 0)))))
       moves true b = ends-moves n (length (w .ledger)) entry (by owner.Raise) entry Done done refl refl
       moves false true = ends-moves n (length (w .ledger)) entry (by owner.Raise) entry Done done refl refl
-      moves false false = named-moves n (length (w .ledger)) entry (by owner.Raise) stage.R2 (queueAt 0) (k .fit .entry refl) (lit≤ tt) refl refl (asks atR2 port) refl
+      moves false false = named-moves n (length (w .ledger)) entry (by owner.Raise) stage.R2 (queueAt 0) (k .fit .entry refl) (lit≤ tt) refl (asks atR2 port) refl
 
   at-U1 : Core n (atStage w owner.Unmask stage.First) (asks atU1 port) (guestCallOf (w .guest .call)) h → Kept n (performSide n (atStage w owner.Unmask stage.First) side.Hypervisor) h
   unfolding isFree due dueFirst staged replyFirst replyU1 performed placeOf afterAccess loaded saved
@@ -77,7 +77,7 @@ module _ {n : ℕ} (wide : Width n) (w : World) (h : List Event) where
           (cond (not a) (ends entry Done (w .domain .call .count)) (cond b (ends entry Done (w .domain .call .count)) (goesOn entry (named (by owner.Unmask) stage.R2 (queueAt 0)))))
       moves false b = ends-moves n (length (w .ledger)) entry (by owner.Unmask) entry Done done refl refl
       moves true true = ends-moves n (length (w .ledger)) entry (by owner.Unmask) entry Done done refl refl
-      moves true false = named-moves n (length (w .ledger)) entry (by owner.Unmask) stage.R2 (queueAt 0) (k .fit .entry refl) (lit≤ tt) refl refl (asks atR2 port) refl
+      moves true false = named-moves n (length (w .ledger)) entry (by owner.Unmask) stage.R2 (queueAt 0) (k .fit .entry refl) (lit≤ tt) refl (asks atR2 port) refl
 
   at-bind : Core n (atStage w owner.Bind stage.First) (asks atBind port) (guestCallOf (w .guest .call)) h → Kept n (performSide n (atStage w owner.Bind stage.First) side.Hypervisor) h
   unfolding isFree codeOf due dueFirst staged replyFirst replyBind performed placeOf afterAccess loaded saved

@@ -6,6 +6,8 @@ use mathlib.Core.Bool.{Bool, true, false}
 use mathlib.Core.List.{List, _++_}
 use Prim.Native.Nat.{ℕ, suc, _*_, _^_, _≤_, _<_}
 use lib.ListN.{length, getD}
+use Rattle.word.specs.declared.Flag.the-variants.{Linked}
+use Rattle.word.specs.Word.{has}
 use Rattle.calls.specs.declared.types.Stage.{Stage}
 use Rattle.calls.specs.declared.types.Stage.the-variants as stage
 use Rattle.calls.specs.declared.types.Call as calls
@@ -17,11 +19,11 @@ use Rattle.queue.specs.Budget.{madeBy}
 use Rattle.queue.specs.Invariant.{Inv}
 use Rattle.interleaving.specs.Held.{isLinking}
 use Rattle.interleaving.specs.Bounds.{Bounds}
-use Rattle.interleaving.proofs.View.{viewOf, callOf, guestCallOf}
+use Rattle.interleaving.proofs.View.{viewOf, callOf, guestCallOf, clearsOf}
 use Rattle.interleaving.proofs.HistoryLaws.{InOrder}
 
 -- the array fits in LINK and in the lent words (R4, every access); its words have 32 bits, so that a cas compares their
--- fields (R4); control block, tails and heads have a place for each queue
+-- fields (R4, clear_mask); control block, tails and heads have a place for each queue
 pub record Sizes (n pages : ℕ) (words control queues guests : List ℕ) : Type 0 where
   pub array : 1024 * pages ≤ 2 ^ n
   pub lent : 2 ^ n ≤ length words
@@ -30,31 +32,34 @@ pub record Sizes (n pages : ℕ) (words control queues guests : List ℕ) : Type
   pub tails : length queues ≡ 16
   pub heads : length guests ≡ 16
 
-abbrev pub isR4 : Stage → Bool
-isR4 stage.First = false
-isR4 stage.R2 = false
-isR4 stage.R3 = false
-isR4 stage.R4 = true
-isR4 stage.R5 = false
-isR4 stage.R6 = false
+abbrev isClearBusy : Stage → Bool
+isClearBusy stage.First = false
+isClearBusy stage.R2 = false
+isClearBusy stage.R3 = false
+isClearBusy stage.R4 = false
+isClearBusy stage.SetBusy = false
+isClearBusy stage.ClearBusy = true
+isClearBusy stage.R5 = false
+isClearBusy stage.R6 = false
 
 -- the hypervisor's call, with a ledger of so many entries: its port has one (no 14); its queue is one of the sixteen; R4's
--- word has 32 bits and a cas is named; only a raise or unmask is past its first access
+-- word has 32 bits; ClearBusy's has no LINKED (no 2); only a raise or unmask is past its first access
 pub record Fit (entries : ℕ) (c : calls.Call) : Type 0 where
   pub entry : isFree (c .owner) ≡ false → c .port .0 < entries
   pub queue : c .queue .0 < 16
   pub word : c .word < 2 ^ 32
-  pub tries : isR4 (c .stage) ≡ true → 0 < c .tries
+  pub unlinked : isClearBusy (c .stage) ≡ true → has Linked (c .word) ≡ false
   pub linking : isLinking (c .owner) ≡ false → c .stage ≡ stage.First
 
--- c and g are the calls under way, as the queue level has them
+-- c and g are the hypervisor's call and the service under way, as the queue level has them
 pub record Core (n : ℕ) (w : World) (c : Call) (g : GuestCall) (h : List Event) : Type 0 where
   pub lists : ℕ → List ℕ
-  pub inv : Inv (viewOf n w) c (alone g) lists
+  pub inv : Inv (viewOf n w) c (alone g) (clearsOf n w) lists
   pub sizes : Sizes n (w .domain .pages) (w .memory .words) (w .memory .block) (w .domain .tails) (w .guest .heads)
   pub fit : Fit (length (w .ledger)) (w .domain .call)
   pub count : w .domain .call .count ≤ suc (madeBy c)
   pub guestQueue : w .guest .call .queue .0 < 16
+  pub clearWord : w .guest .clear .word < 2 ^ 32
   pub order : InOrder h lists
 
 abbrev pub Good : ℕ → World → List Event → Type 0

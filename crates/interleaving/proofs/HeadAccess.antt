@@ -62,7 +62,7 @@ module _ (n : ℕ) (w : World) (h : List Event) (o : Owner) (linking : isLinking
         local = λ r. refl;
         owner = λ r. refl;
       }))
-      (record { call = under-way o _ linking; fit = fit-named (length (w .ledger)) (atStage w o stage.R5 .domain .call) stage.R6 (w .domain .call .queue) known (k .fit .queue) refl linking; more = one-more-le (w .domain .call .count); answer = done; count = zero-le })
+      (record { call = under-way o _ linking; fit = fit-named (length (w .ledger)) (atStage w o stage.R5 .domain .call) stage.R6 (w .domain .call .queue) known (k .fit .queue) linking; more = one-more-le (w .domain .call .count); answer = done; count = zero-le })
       (sizes-block (k .sizes) _ _)
       (count-holds 0 q p atR5 (k .inv)) (lit≤ tt) (order-quiet h _ (k .lists) (k .order) (λ q. refl) (λ q. refl)) (no-bounds _ _ refl))
     where

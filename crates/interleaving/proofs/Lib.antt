@@ -9,13 +9,16 @@ pub mod FirstAccess
 pub mod Linking
 pub mod LinkAccess
 pub mod TailAccess
+pub mod BusyAccess
 pub mod HeadAccess
 pub mod Served
 pub mod ServiceAccess
+pub mod ClearAccess
 pub mod Starts
 pub mod GuestStarts
 pub mod Steps
 pub mod Theorem
+pub mod Busy
 pub mod Counts
 pub mod Refused
 pub mod Reach

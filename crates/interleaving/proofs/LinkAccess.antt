@@ -47,10 +47,10 @@ use Rattle.queue.proofs.Budget.{count-asks}
 use Rattle.interleaving.specs.Held.{isLinking}
 use Rattle.interleaving.proofs.Decode.{decoded, decoded-linked}
 use Rattle.interleaving.proofs.HistoryLaws.{order-quiet}
-use Rattle.interleaving.proofs.Good.{isR4, Fit, Core, Kept}
+use Rattle.interleaving.proofs.Good.{Fit, Core, Kept}
 use Rattle.interleaving.specs.Fresh.{wordAt}
-use Rattle.interleaving.proofs.View.{viewOf, callOf, guestCallOf, agree, set-update}
-use Rattle.interleaving.proofs.Carried.{atStage, portOf, entryOf, guestsOf, carried, perform-carried, Moves, kept, put-kept, sizes-word, in-words, no-bounds}
+use Rattle.interleaving.proofs.View.{viewOf, callOf, guestCallOf, guestsOf, clearsOf, agree, set-update}
+use Rattle.interleaving.proofs.Carried.{atStage, portOf, entryOf, carried, perform-carried, Moves, kept, put-kept, sizes-word, in-words, no-bounds}
 use Rattle.interleaving.proofs.Replies.{one-more-le, fit-named, ends-moves, done}
 use Rattle.interleaving.proofs.Linking.{under-way, not-free}
 
@@ -119,8 +119,8 @@ module _ {n : ℕ} (wide : Width n) (w : World) (h : List Event) (o : Owner) (li
   abbrev left : Bool → After Call
   left b = cond b (record { view = put (viewOf n w) port (withLinked true (decoded n seen)); call = idle; lists = k .lists }) (linkOn queue port (viewOf n w) (k .lists))
 
-  keeps : (b : Bool) → has Linked seen ≡ b → Keeps (left b) (guestsOf w)
-  keeps b d = subst (λ b. Keeps (left b) (guestsOf w)) d (R2-keeps queue port (k .inv))
+  keeps : (b : Bool) → has Linked seen ≡ b → Keeps (left b) (guestsOf w) (clearsOf n w)
+  keeps b d = subst (λ b. Keeps (left b) (guestsOf w) (clearsOf n w)) d (R2-keeps queue port (k .inv))
 
   less : (b : Bool) → has Linked seen ≡ b → 1 < madeBy (left b .call)
   less b d = subst (λ b. 1 < madeBy (left b .call)) d (count-asks (viewOf n w) (k .lists) queue atR2 port)
@@ -140,14 +140,14 @@ module _ {n : ℕ} (wide : Width n) (w : World) (h : List Event) (o : Owner) (li
   unfolding afterR2
   moves = record {
     call = rw (own-tail (viewOf n w) queue port) (after-call n call (queueAt queue) linking (eqb (tail queue) 0) (eqb (tail queue) port));
-    fit = either-stage (Fit (length (w .ledger))) (fit stage.R5 refl) (fit stage.R3 refl);
+    fit = either-stage (Fit (length (w .ledger))) (fit stage.R5) (fit stage.R3);
     more = either-stage (λ z. z .count ≤ suc (call .count)) (one-more-le (call .count)) (one-more-le (call .count));
     answer = done;
     count = zero-le;
   }
     where
-      fit : (z : Stage) → isR4 z ≡ false → Fit (length (w .ledger)) (named call z (queueAt queue))
-      fit z d = fit-named (length (w .ledger)) call z (queueAt queue) known (priority-lt entry) d linking
+      fit : (z : Stage) → Fit (length (w .ledger)) (named call z (queueAt queue))
+      fit z = fit-named (length (w .ledger)) call z (queueAt queue) known (priority-lt entry) linking
 
       either-stage : (P : calls.Call → Type 0) → P (named call stage.R5 (queueAt queue)) → P (named call stage.R3 (queueAt queue))
           → P (cond (eqb (tail queue) 0) (named call stage.R5 (queueAt queue)) (cond (eqb (tail queue) port) (named call stage.R5 (queueAt queue)) (named call stage.R3 (queueAt queue))))

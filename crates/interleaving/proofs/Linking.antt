@@ -2,16 +2,18 @@
 -- Assumes nothing.
 use mathlib.Core.Path.{_≡_, refl}
 use mathlib.Core.Bool.{Bool, true, false}
+use Prim.Native.Nat.{ℕ}
 use Rattle.calls.specs.declared.types.Owner.{Owner}
 use Rattle.calls.specs.declared.types.Owner.the-variants as owner
 use Rattle.calls.specs.declared.types.Stage.{Stage}
 use Rattle.calls.specs.declared.types.Stage.the-variants as stage
 use Rattle.calls.specs.Records.{isFree}
-use Rattle.queue.specs.Model.{Call}
-use Rattle.queue.specs.Stages.{R5, R6}
+use Rattle.queue.specs.Model.{Kind, Call}
+use Rattle.queue.specs.Model.Kind.{atR1, atU1, atBind, atClose}
+use Rattle.queue.specs.Model.Call.{idle, asks}
 use Rattle.queue.proofs.Cases.{clash}
 use Rattle.interleaving.specs.Held.{isLinking}
-use Rattle.interleaving.proofs.View.{unlessNone}
+use Rattle.interleaving.proofs.View.{unlessNone, callBy}
 
 pub under-way : (o : Owner) (c : Call) → isLinking o ≡ true → unlessNone o c ≡ c
 under-way owner.None c e = clash e refl
@@ -28,10 +30,28 @@ not-free owner.Close e = refl
 not-free owner.Raise e = refl
 not-free owner.Unmask e = refl
 
+-- where P fails of an idle call, P of `unlessNone o c` is P of c
+pub unless : (P : Call → Type 0) → (P idle → ⊥) → (o : Owner) (c : Call) → P (unlessNone o c) → P c
+unless P none owner.None c h = absurd (none h)
+unless P none owner.Bind c h = h
+unless P none owner.Close c h = h
+unless P none owner.Raise c h = h
+unless P none owner.Unmask c h = h
+
+-- a call at its first access asks for its port
+pub first-asks : (P : Call → Type 0) (n p q x t : ℕ) → (P idle → ⊥) → ((k : Kind) → P (asks k p) → ⊥) → (o : Owner) → P (callBy n o stage.First p q x t) → ⊥
+first-asks P n p q x t none asked owner.None h = none h
+first-asks P n p q x t none asked owner.Bind h = asked atBind h
+first-asks P n p q x t none asked owner.Close h = asked atClose h
+first-asks P n p q x t none asked owner.Raise h = asked atR1 h
+first-asks P n p q x t none asked owner.Unmask h = asked atU1 h
+
 abbrev pub isFirst : Stage → Bool
 isFirst stage.First = true
 isFirst stage.R2 = false
 isFirst stage.R3 = false
 isFirst stage.R4 = false
+isFirst stage.SetBusy = false
+isFirst stage.ClearBusy = false
 isFirst stage.R5 = false
 isFirst stage.R6 = false

@@ -10,17 +10,20 @@ use Rattle.calls.specs.declared.types.Masking.{Masking}
 use Rattle.calls.specs.declared.types.Masking.the-variants as masking
 use Rattle.calls.specs.declared.types.Domain.{Domain}
 use Rattle.calls.specs.declared.types.Guest.{Guest}
-use Rattle.calls.specs.Records.{freshDomain, freshGuest}
+use Rattle.calls.specs.Records.{isClearing, freshDomain, freshGuest}
 use Rattle.calls.specs.Hypervisor.{replyOf, dueOf}
-use Rattle.calls.specs.Guest.{serviceStart, serviceReply, guestDueOf, maskOf, tellOf}
+use Rattle.calls.specs.Guest.{serviceStart, maskOf, tellOf}
+use Rattle.calls.specs.ClearMask.{clearMaskStart, guestReply, guestDueOf}
 use Rattle.calls.specs.Claims.{Act, GuestAct, Side, hypervisorSide, guestSide, Counting, runOne, run}
 use Rattle.machine.specs.Memory.{placeOf, performed}
-use Rattle.machine.specs.Exec.{World, Advanced, worldAfter, stepOf, hypervisorAnswer, guestAnswer, listOf, startOf, hypervisorStep, guestStep, performHypervisorNext, performHypervisor, performGuestNext, performGuest, performMasking, performMask, guestStartOf, performSide, handBack, advanceOf, exec, execAll}
+use Rattle.machine.specs.Exec.{World, Advanced, worldAfter, stepOf, hypervisorAnswer, guestAnswer, listOf, startOf, hypervisorStep, guestStep, performHypervisorNext, performHypervisor, guestAccess, performGuestNext, performGuest, performMasking, performMask, guestStartOf, performSide, handBack, advanceOf, exec, execAll}
 use Rattle.machine.specs.declared.types.Side.the-variants as side
-use Rattle.machine.specs.declared.types.GuestStart.the-variants.{Service, Mask, Tell}
+use Rattle.machine.specs.declared.types.GuestStart.the-variants.{Service, Mask, ClearMask, Tell}
 use Rattle.machine.specs.declared.types.Step.{Step}
 use Rattle.machine.specs.declared.types.Step.the-variants as step
+use Rattle.machine.specs.declared.types.Event.the-variants.{GuestAccess, ClearAccess}
 use Rattle.machine.proofs.StepActs.{Acted, byHypervisor, byGuest, byMask, acted}
+use Rattle.queue.proofs.Cases.{by-cond}
 use Rattle.claims.specs.Reach.{Inside, MaskInside}
 use Rattle.claims.proofs.HypervisorReach.{calls-bounded}
 use Rattle.claims.proofs.GuestReach.{services-bounded, masks-inside}
@@ -78,8 +81,8 @@ module _ (n : ℕ) (w : World) (r : Reached n (w .domain) (w .guest)) where
   replies : (seen : ℕ) → EventsInside (arrayWords w) (listOf (hypervisorAnswer (replyOf n (w .domain) (w .ledger) seen .outcome .next)))
   replies seen = answer-inside (arrayWords w) (replyOf n (w .domain) (w .ledger) seen .outcome .next)
 
-  guest-replies : (seen : ℕ) → EventsInside (arrayWords w) (listOf (guestAnswer (serviceReply n (w .guest) seen .next)))
-  guest-replies seen = guest-answer-inside (arrayWords w) (serviceReply n (w .guest) seen .next)
+  guest-replies : (seen : ℕ) → EventsInside (arrayWords w) (listOf (guestAnswer (guestReply n (w .guest) seen .next)))
+  guest-replies seen = guest-answer-inside (arrayWords w) (guestReply n (w .guest) seen .next)
 
   hypervisor-inside : (x : Next) → dueOf n (w .domain) ≡ x → EventsInside (arrayWords w) (stepOf (hypervisorStep w (performHypervisorNext n (w .domain) (w .ledger) (w .memory) x)) .events)
   hypervisor-inside (next.Access a) e =
@@ -87,8 +90,16 @@ module _ (n : ℕ) (w : World) (r : Reached n (w .domain) (w .guest)) where
   hypervisor-inside (next.Answer a count) e = replies 0
 
   guest-inside : Told w → (x : Next) → guestDueOf n (w .guest) ≡ x → EventsInside (arrayWords w) (stepOf (guestStep w (performGuestNext n (w .guest) (w .memory) x)) .events)
+  unfolding guestAccess
   guest-inside told (next.Access a) e =
-      (subst (λ (words : ℕ). Inside words (placeOf a)) (ap (λ (g : Guest). g .words) (r .guest) ∙ told) (services-bounded n (r .guestActs) .due a (ap (guestDueOf n) (r .guest) ∙ e)), guest-replies (performed (w .memory) a .seen))
+      by-cond (λ x. EventsInside (arrayWords w) (listOf x ++ listOf (guestAnswer (guestReply n (w .guest) seen .next)))) (isClearing (w .guest .clear .stage)) (ClearAccess (w .guest .clear) a seen) (GuestAccess (w .guest .call) a seen)
+      (λ d. (inside, guest-replies seen)) (λ d. (inside, guest-replies seen))
+    where
+      seen : ℕ
+      seen = performed (w .memory) a .seen
+
+      inside : Inside (arrayWords w) (placeOf a)
+      inside = subst (λ (words : ℕ). Inside words (placeOf a)) (ap (λ (g : Guest). g .words) (r .guest) ∙ told) (services-bounded n (r .guestActs) .due a (ap (guestDueOf n) (r .guest) ∙ e))
   guest-inside told (next.Answer a count) e = guest-replies 0
 
   mask-inside : Told w → (x : Masking) → MaskInside (w .guest .words) x → EventsInside (arrayWords w) (stepOf (guestStep w (performMasking (w .guest) (w .memory) x)) .events)
@@ -100,6 +111,7 @@ module _ (n : ℕ) (w : World) (r : Reached n (w .domain) (w .guest)) where
   step-inside (step.Hypervisor s) a = answer-inside (arrayWords w) (startOf n (w .domain) (w .ledger) (w .memory .words) s .outcome .next)
   step-inside (step.Guest Service) a = guest-answer-inside (arrayWords w) (serviceStart n (w .guest) .next)
   step-inside (step.Guest (Mask p)) a = mask-inside a (maskOf n p (w .guest .words)) (masks-inside n p (w .guest .words))
+  step-inside (step.Guest (ClearMask p)) a = guest-answer-inside (arrayWords w) (clearMaskStart n (w .guest) p .next)
   step-inside (step.Guest (Tell words)) a = guest-answer-inside (arrayWords w) (tellOf (w .guest) words .next)
   step-inside (step.Perform side.Hypervisor) a = hypervisor-inside (dueOf n (w .domain)) refl
   step-inside (step.Perform side.Guest) a = guest-inside a (guestDueOf n (w .guest)) refl
@@ -121,6 +133,7 @@ unfolding placeOf
 outside-refused = record {
   hypervisor = λ c h. omega (arith, h .below);
   guest = λ c h. omega (arith, h .below);
+  clear = λ c h. omega (arith, h .below);
   mask = λ h. omega (arith, h .below);
   portZero = λ h. omega (arith, h .positive);
   head = λ c h. omega (arith, h);

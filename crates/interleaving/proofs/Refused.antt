@@ -10,7 +10,7 @@ use lib.ListN.{getD}
 use Rattle.word.specs.Word.{linkBits, link}
 use Rattle.word.specs.Computes.{computes}
 use Rattle.word.proofs.ReadyLaws.{ready-zero}
-use Rattle.calls.specs.Records.{isFree}
+use Rattle.calls.specs.Records.{isFree, isClearing}
 use Rattle.calls.specs.Guest.{isServing}
 use Rattle.calls.specs.declared.types.Call.{Call}
 use Rattle.calls.specs.declared.types.GuestCall.{GuestCall}
@@ -83,8 +83,8 @@ out-of-order k =
 
 -- no call, no bit; H alone is there
 rests : (x : ℕ) → Rest (worlds.resting x)
-unfolding isFree isServing
-rests x = record { hypervisor = refl; guest = refl; local = λ q lt. ready-zero q; ready = λ q lt. ready-zero q }
+unfolding isFree isServing isClearing
+rests x = record { hypervisor = refl; guest = refl; clearing = refl; local = λ q lt. ready-zero q; ready = λ q lt. ready-zero q }
 
 pending-at-rest : Refused (worlds.resting 0x80000000) (takes 7 20 ∷ [])
 unfolding computes

@@ -12,8 +12,10 @@ use lib.Pow.{pow-mono}
 use borrow.Author.Tests.{ltb-true, ltb-false, lt-ltb, le-ltb, leb-true, leb-false, eqb-false, eq-eqb, ne-eqb, not-true, not-false}
 use Rattle.word.specs.declared.Port.{Port}
 use Rattle.word.specs.declared.Priority.{Priority}
+use Rattle.word.specs.declared.Flag.the-variants.{Linked}
 use Rattle.word.specs.Word.{Width, queueAt}
 use Rattle.word.specs.Entry.{bound, lastQueue, everLinked}
+use Rattle.word.proofs.WordLaws.{has-zero}
 use Rattle.word.proofs.EntryLaws.{lastQueue-withPriority, everLinked-withPriority, lastQueue-boundEntry, everLinked-boundEntry, lastQueue-closedEntry, everLinked-closedEntry}
 use Rattle.calls.specs.declared.types.Answer.{Answer}
 use Rattle.calls.specs.declared.types.Answer.the-variants.{Done, LinkBits}
@@ -41,7 +43,7 @@ use Rattle.machine.specs.Exec.{World, listOf, hypervisorAnswer, started, turned
 use Rattle.machine.specs.declared.types.Start.{Start}
 use Rattle.machine.specs.declared.types.Start.the-variants.{InitControl, ExpandArray, Bind, Close, SetPriority, Raise, Unmask}
 use Rattle.machine.specs.declared.types.Event.{Event}
-use Rattle.queue.specs.Model.{Kind, Call, alone, zeroWord}
+use Rattle.queue.specs.Model.{Kind, Call, zeroWord}
 use Rattle.queue.specs.Model.Kind.{atR1, atU1, atBind, atClose}
 use Rattle.queue.specs.Model.Call.{idle, asks}
 use Rattle.queue.specs.Stages.{expand}
@@ -51,7 +53,7 @@ use Rattle.queue.proofs.Ask.{start-keeps}
 use Rattle.queue.proofs.Expand.{expand-keeps}
 use Rattle.interleaving.specs.Bounds.{Bounds}
 use Rattle.interleaving.proofs.Decode.{decoded, decoded-zero}
-use Rattle.interleaving.proofs.View.{viewOf, callBy, callOf, guestCallOf, agree, set-blind}
+use Rattle.interleaving.proofs.View.{viewOf, callBy, callOf, guestsOf, clearsOf, agree, set-blind}
 use Rattle.interleaving.proofs.HistoryLaws.{InOrder, order-quiet, answer-taken, answer-given}
 use Rattle.interleaving.proofs.Good.{Good, Kept}
 use Rattle.interleaving.proofs.Carried.{answer-bounds}
@@ -67,6 +69,8 @@ free-idle n c e = go (c .owner) (c .stage) e
     go owner.None stage.R2 e = refl
     go owner.None stage.R3 e = refl
     go owner.None stage.R4 e = refl
+    go owner.None stage.SetBusy e = refl
+    go owner.None stage.ClearBusy e = refl
     go owner.None stage.R5 e = refl
     go owner.None stage.R6 e = refl
     go owner.Bind s e = clash e refl
@@ -184,7 +188,7 @@ module _ {n : ℕ} (w : World) (h : List Event) (k : Good n w h) where
 
   pub refused-kept : (a : Answer) → Fine a → Kept n (startStep w (started (answered (w .domain) a) (w .ledger) (w .memory .words))) h
   refused-kept a f = record {
-    good = record { lists = k .lists; inv = k .inv; sizes = k .sizes; fit = k .fit; count = k .count; guestQueue = k .guestQueue; order = order-start (next.Answer a 0) };
+    good = record { lists = k .lists; inv = k .inv; sizes = k .sizes; fit = k .fit; count = k .count; guestQueue = k .guestQueue; clearWord = k .clearWord; order = order-start (next.Answer a 0) };
     bounds = bounds-start a f;
   }
 
@@ -192,7 +196,7 @@ module _ {n : ℕ} (w : World) (h : List Event) (k : Good n w h) where
   unfolding codeOf
   init-kept (acceptance.Refused a) f = refused-kept a f
   init-kept acceptance.Accepted f = record {
-    good = record { lists = k .lists; inv = k .inv; sizes = k .sizes; fit = k .fit; count = k .count; guestQueue = k .guestQueue; order = order-start (next.Answer (LinkBits n) 0) };
+    good = record { lists = k .lists; inv = k .inv; sizes = k .sizes; fit = k .fit; count = k .count; guestQueue = k .guestQueue; clearWord = k .clearWord; order = order-start (next.Answer (LinkBits n) 0) };
     bounds = bounds-start (LinkBits n) (λ d. omega arith);
   }
 
@@ -212,12 +216,13 @@ module _ {n : ℕ} (w : World) (h : List Event) (k : Good n w h) where
   expand-kept wide acceptance.Accepted f = rw (lt-ltb pages 0xFFFFFFFF (omega (arith, few))) (rw (lt-ltb pages (pages + 1) (omega arith)) (record {
     good = record {
       lists = k .lists;
-      inv = subst (λ v. Inv v (callOf n (w .domain .call)) (alone (guestCallOf (w .guest .call))) (k .lists)) (sym view)
+      inv = subst (λ v. Inv v (callOf n (w .domain .call)) (guestsOf w) (clearsOf n w) (k .lists)) (sym view)
           (rw (free-idle n (w .domain .call) (f .free)) (expand-keeps (1024 * (pages + 1)) (omega arith) (rw (free-idle n (w .domain .call) (f .free)) at (k .inv))));
       sizes = record { array = fits; lent = rw (page-length pages (w .memory .words)) (k .sizes .lent); small = small; block = k .sizes .block; tails = k .sizes .tails; heads = k .sizes .heads };
       fit = k .fit;
       count = k .count;
       guestQueue = k .guestQueue;
+      clearWord = k .clearWord;
       order = order-start (next.Answer Done 0);
     };
     bounds = bounds-start Done done;
@@ -263,9 +268,10 @@ module _ {n : ℕ} (w : World) (h : List Event) (k : Good n w h) where
       lists = k .lists;
       inv = rw e (start-keeps kind (p .0) (f .real) (rw (free-idle n (w .domain .call) (f .free)) at (k .inv)));
       sizes = k .sizes;
-      fit = record { entry = λ d. f .entry; queue = lit≤ tt; word = lit≤ tt; tries = λ d. clash d refl; linking = λ d. refl };
+      fit = record { entry = λ d. f .entry; queue = lit≤ tt; word = lit≤ tt; unlinked = λ d. has-zero Linked; linking = λ d. refl };
       count = omega arith;
       guestQueue = k .guestQueue;
+      clearWord = k .clearWord;
       order = order-start (nextOf n (withCall (w .domain) (callAt starts stage.First p (queueAt 0) 1)) Done 0);
     };
     bounds = answer-bounds n _ Done 0 (record { linkNotAbandoned = done; accesses = zero-le });
@@ -273,7 +279,7 @@ module _ {n : ℕ} (w : World) (h : List Event) (k : Good n w h) where
   started-kept starts kind p e (begin.Settled x) f = record {
     good = record {
       lists = k .lists;
-      inv = subst (λ v. Inv v (callOf n (w .domain .call)) (alone (guestCallOf (w .guest .call))) (k .lists)) (sym (agree (record {
+      inv = subst (λ v. Inv v (callOf n (w .domain .call)) (guestsOf w) (clearsOf n w) (k .lists)) (sym (agree (record {
         word = λ x. refl;
         size = refl;
         tail = λ q. refl;
@@ -289,6 +295,7 @@ module _ {n : ℕ} (w : World) (h : List Event) (k : Good n w h) where
       fit = rw (length-set (w .ledger) (p .0) x) (k .fit);
       count = k .count;
       guestQueue = k .guestQueue;
+      clearWord = k .clearWord;
       order = order-start (next.Answer Done 0);
     };
     bounds = bounds-start Done done;

@@ -12,11 +12,12 @@ use Rattle.calls.specs.declared.types.Owner.{Owner}
 use Rattle.calls.specs.declared.types.Stage.{Stage}
 use Rattle.calls.specs.declared.types.Stage.the-variants as stage
 use Rattle.calls.specs.declared.types.Domain.{Domain}
-use Rattle.calls.specs.declared.types.Guest.{Guest}
 use Rattle.calls.specs.Answers.{codeOf}
-use Rattle.calls.specs.Records.{isFree}
+use Rattle.calls.specs.Records.{isFree, isClearing}
 use Rattle.calls.specs.Hypervisor.{turn, answered, nextOf, dueOf, replyOf}
-use Rattle.calls.specs.Guest.{isServing, guestAnswered, guestNext, guestDueOf, serviceReply}
+use Rattle.calls.specs.Guest.{isServing, guestAnswered, serviceReply}
+use Rattle.calls.specs.ClearMask.{guestReply}
+use Rattle.calls.proofs.GuestClaims.{guest-due-none}
 use Rattle.machine.specs.Exec.{World, started, startStep, hypervisorStep, hypervisorReplied, guestStep, guestReplied, performSide, performHypervisorNext, performHypervisor, performGuestNext, performGuest, handBack, advanceOf, exec, execAll}
 use Rattle.machine.specs.declared.types.Side.the-variants as side
 use Rattle.machine.specs.declared.types.Step.{Step}
@@ -26,10 +27,10 @@ use Rattle.machine.specs.declared.types.Event.the-variants.{Nothing}
 use Rattle.queue.proofs.Cases.{clash}
 use Rattle.interleaving.specs.Held.{isLinking}
 use Rattle.interleaving.specs.Bounds.{Bounds}
-use Rattle.interleaving.specs.Rules.{Told, Allowed, KeepsRules}
+use Rattle.interleaving.specs.Rules.{Told, NoGuestCall, Allowed, KeepsRules}
 use Rattle.interleaving.proofs.Good.{Core, Good, Kept}
 use Rattle.queue.specs.Model.Kind.{atR2}
-use Rattle.queue.specs.Model.Stage.{atR3, atR4, atR5, atR6}
+use Rattle.queue.specs.Model.Stage.{atR3, atR4, atSetBusy, atClearBusy, atR5, atR6}
 use Rattle.queue.specs.Model.Call.{asks, holds}
 use Rattle.interleaving.proofs.Decode.{decoded}
 use Rattle.interleaving.proofs.View.{callOf, guestCallOf}
@@ -38,8 +39,10 @@ use Rattle.interleaving.proofs.FirstAccess.{first-kept}
 use Rattle.interleaving.proofs.Linking.{isFirst, under-way}
 use Rattle.interleaving.proofs.LinkAccess.{at-R2}
 use Rattle.interleaving.proofs.TailAccess.{at-R3, at-R4}
+use Rattle.interleaving.proofs.BusyAccess.{at-SetBusy, at-ClearBusy}
 use Rattle.interleaving.proofs.HeadAccess.{at-R5, at-R6}
 use Rattle.interleaving.proofs.ServiceAccess.{service-kept}
+use Rattle.interleaving.proofs.ClearAccess.{clear-kept}
 use Rattle.interleaving.proofs.Starts.{refused-kept, start-kept}
 use Rattle.interleaving.proofs.GuestStarts.{answered-kept, guest-start-kept}
 
@@ -47,10 +50,6 @@ use Rattle.interleaving.proofs.GuestStarts.{answered-kept, guest-start-
 due-free : (n : ℕ) (d : Domain) → isFree (d .call .owner) ≡ true → dueOf n d ≡ next.Answer NoCall 0
 unfolding nextOf
 due-free n d e = rw e
-
-due-none : (n : ℕ) (g : Guest) → isServing (g .call .stage) ≡ false → guestDueOf n g ≡ next.Answer NoCall 0
-unfolding guestNext
-due-none n g e = rw e
 
 module _ (n : ℕ) (w : World) where
   pub reply-free : (word : ℕ) → isFree (w .domain .call .owner) ≡ true → replyOf n (w .domain) (w .ledger) word ≡ turn (answered (w .domain) NoCall) (w .ledger)
@@ -61,13 +60,13 @@ module _ (n : ℕ) (w : World) where
   unfolding performSide performHypervisor
   perform-free e = ap (λ x. hypervisorStep w (performHypervisorNext n (w .domain) (w .ledger) (w .memory) x)) (due-free n (w .domain) e) ∙ ap (λ t. hypervisorStep w (hypervisorReplied t Nothing (w .memory))) (reply-free 0 e)
 
-  pub reply-none : (word : ℕ) → isServing (w .guest .call .stage) ≡ false → serviceReply n (w .guest) word ≡ guestAnswered (w .guest) NoCall
-  unfolding serviceReply
-  reply-none word e = rw e
+  reply-none : (word : ℕ) → NoGuestCall w → guestReply n (w .guest) word ≡ guestAnswered (w .guest) NoCall
+  unfolding guestReply serviceReply
+  reply-none word none = rw (none .clear, none .service)
 
-  pub perform-none : isServing (w .guest .call .stage) ≡ false → performSide n w side.Guest ≡ guestStep w (guestReplied (guestAnswered (w .guest) NoCall) Nothing (w .memory))
+  perform-none : NoGuestCall w → performSide n w side.Guest ≡ guestStep w (guestReplied (guestAnswered (w .guest) NoCall) Nothing (w .memory))
   unfolding performSide performGuest
-  perform-none e = ap (λ x. guestStep w (performGuestNext n (w .guest) (w .memory) x)) (due-none n (w .guest) e) ∙ ap (λ o. guestStep w (guestReplied o Nothing (w .memory))) (reply-none 0 e)
+  perform-none none = ap (λ x. guestStep w (performGuestNext n (w .guest) (w .memory) x)) (guest-due-none n (w .guest) (none .clear) (none .service)) ∙ ap (λ o. guestStep w (guestReplied o Nothing (w .memory))) (reply-none 0 none)
 
 -- a raise or unmask at R2 to R6, whichever of the two it is
 module _ {n : ℕ} (wide : Width n) (w : World) (h : List Event) (o : Owner) (linking : isLinking o ≡ true) where
@@ -76,6 +75,8 @@ module _ {n : ℕ} (wide : Width n) (w : World) (h : List Event) (o : Owner) (li
   link-kept stage.R2 k e = at-R2 wide w h o linking (rw (under-way o (asks atR2 (portOf w)) linking) at k)
   link-kept stage.R3 k e = at-R3 wide w h o linking (rw (under-way o (holds (queueOf w) (portOf w) atR3) linking) at k)
   link-kept stage.R4 k e = at-R4 wide w h o linking (rw (under-way o (holds (queueOf w) (portOf w) (atR4 (w .domain .call .tries - 1) (decoded n (w .domain .call .word)))) linking) at k)
+  link-kept stage.SetBusy k e = at-SetBusy wide w h o linking (rw (under-way o (holds (queueOf w) (portOf w) atSetBusy) linking) at k)
+  link-kept stage.ClearBusy k e = at-ClearBusy wide w h o linking (rw (under-way o (holds (queueOf w) (portOf w) atClearBusy) linking) at k)
   link-kept stage.R5 k e = at-R5 n w h o linking (rw (under-way o (holds (queueOf w) (portOf w) atR5) linking) at k)
   link-kept stage.R6 k e = at-R6 n w h o linking (rw (under-way o (holds (queueOf w) (portOf w) atR6) linking) at k)
 
@@ -93,6 +94,8 @@ module _ {n : ℕ} (wide : Width n) (w : World) (h : List Event) where
   access-kept stage.R2 k f = later-kept stage.R2 k refl
   access-kept stage.R3 k f = later-kept stage.R3 k refl
   access-kept stage.R4 k f = later-kept stage.R4 k refl
+  access-kept stage.SetBusy k f = later-kept stage.SetBusy k refl
+  access-kept stage.ClearBusy k f = later-kept stage.ClearBusy k refl
   access-kept stage.R5 k f = later-kept stage.R5 k refl
   access-kept stage.R6 k f = later-kept stage.R6 k refl
 
@@ -102,17 +105,19 @@ module _ {n : ℕ} (wide : Width n) (w : World) (h : List Event) where
     perform-kept true e = rw (perform-free n w e) (refused-kept w h k NoCall (λ d. omega arith))
     perform-kept false e = access-kept (w .domain .call .stage) k e
 
-    serve-kept : (b : Bool) → isServing (w .guest .call .stage) ≡ b → Told w → Kept n (performSide n w side.Guest) h
+    -- her access is the clear_mask's if one is under way, else the service's
+    guest-kept : (a b : Bool) → isClearing (w .guest .clear .stage) ≡ a → isServing (w .guest .call .stage) ≡ b → Told w → Kept n (performSide n w side.Guest) h
     unfolding codeOf
-    serve-kept true e told = service-kept wide w h (w .guest .call .stage) told k e
-    serve-kept false e told = rw (perform-none n w e) (answered-kept w h k NoCall 0 (λ d. omega arith))
+    guest-kept true b d e told = clear-kept wide w h (w .guest .clear .stage) k d
+    guest-kept false true d e told = service-kept wide w h d (w .guest .call .stage) told k e
+    guest-kept false false d e told = rw (perform-none n w (record { service = e; clear = d })) (answered-kept w h k NoCall 0 (λ d. omega arith))
 
     pub step-kept : (s : Step) → Allowed w s → Kept n (advanceOf n w s) h
     unfolding advanceOf handBack codeOf
     step-kept (step.Hypervisor s) a = start-kept w h k wide s
     step-kept (step.Guest s) a = guest-start-kept w h k wide s a
     step-kept (step.Perform side.Hypervisor) a = perform-kept (isFree (w .domain .call .owner)) refl
-    step-kept (step.Perform side.Guest) a = serve-kept (isServing (w .guest .call .stage)) refl a
+    step-kept (step.Perform side.Guest) a = guest-kept (isClearing (w .guest .clear .stage)) (isServing (w .guest .call .stage)) refl refl a
     step-kept (step.HandBack side.Hypervisor word) a = rw (reply-free n w word a) (refused-kept w h k NoCall (λ d. omega arith))
     step-kept (step.HandBack side.Guest word) a = rw (reply-none n w word a) (answered-kept w h k NoCall 0 (λ d. omega arith))
 

@@ -20,9 +20,10 @@ use Rattle.calls.specs.declared.types.GuestStage.{GuestStage}
 use Rattle.calls.specs.declared.types.GuestStage.the-variants as guestStage
 use Rattle.machine.specs.Exec.{World}
 use Rattle.machine.specs.declared.types.Event.{Event}
-use Rattle.queue.specs.Model.{Call, alone, HeldBy, LinkedBy, HeldByService}
+use Rattle.queue.specs.Model.{Call, alone, aloneClear, HeldBy, LinkedBy, HeldByService}
 use Rattle.queue.specs.Model.Call.{idle}
 use Rattle.queue.specs.Model.GuestCall.{noService}
+use Rattle.queue.specs.Model.ClearCall.{noClear}
 use Rattle.queue.specs.Invariant.{Inv}
 use Rattle.queue.specs.Claims.{Stands}
 use Rattle.queue.specs.Claims as claims
@@ -30,7 +31,7 @@ use Rattle.queue.proofs.Cases.{clash, either, three}
 use Rattle.queue.proofs.ChainLaws.{chain-unique}
 use Rattle.queue.proofs.Expand.{fresh-keeps}
 use Rattle.queue.proofs.Claim.{standing, linked-once, none-lost, rest-unlinked, rest-masked}
-use Rattle.queue.proofs.OneVcpu.{alone-none, alone-held}
+use Rattle.queue.proofs.OneVcpu.{alone-none, alone-clear-none, alone-held}
 use Rattle.interleaving.specs.Fresh.{freshWorld}
 use Rattle.interleaving.specs.Standing.{readyWord, StandingUnique, StandsOn}
 use Rattle.interleaving.specs.Held.{isLinking, hasLinked, hasTaken, HeldByHypervisor, HeldByLinker, HeldByGuest}
@@ -39,40 +40,21 @@ use Rattle.interleaving.specs.Demand3.{Demand3}
 use Rattle.interleaving.specs.Bounds.{BoundsOfEvents}
 use Rattle.interleaving.proofs.ReadyBits.{bits-at, bits-none, bits-zero}
 use Rattle.interleaving.proofs.Decode.{decoded}
-use Rattle.interleaving.proofs.View.{viewOf, unlessNone, callBy, callOf, guestCallBy, guestCallOf, agree}
+use Rattle.interleaving.proofs.View.{viewOf, unlessNone, callBy, callOf, guestCallBy, guestCallOf, guestsOf, clearsOf, agree}
 use Rattle.interleaving.proofs.Good.{Good}
 use Rattle.interleaving.proofs.Replies.{fit-idle}
-use Rattle.interleaving.proofs.Linking.{isFirst}
+use Rattle.interleaving.proofs.Linking.{isFirst, unless, first-asks}
 use Rattle.interleaving.proofs.Starts.{free-idle}
-use Rattle.interleaving.proofs.GuestStarts.{none-serving}
+use Rattle.interleaving.proofs.GuestStarts.{none-serving, none-clearing}
 use Rattle.interleaving.proofs.Steps.{steps-kept}
 
 -- ---- who holds a port
 module _ (n p q y t x : ℕ) where
-  -- where a raise is at that stage
-  abbrev raiseAt : Stage → Call
-  raiseAt s = callBy n owner.Raise s p q y t
-
   unless-held : (o : Owner) (c : Call) → HeldBy (unlessNone o c) x → HeldBy c x
-  unless-held owner.None c h = absurd h
-  unless-held owner.Bind c h = h
-  unless-held owner.Close c h = h
-  unless-held owner.Raise c h = h
-  unless-held owner.Unmask c h = h
+  unless-held = unless (λ c. HeldBy c x) (λ h. h)
 
   unless-linked : (o : Owner) (c : Call) → LinkedBy (unlessNone o c) x → LinkedBy c x
-  unless-linked owner.None c h = absurd h
-  unless-linked owner.Bind c h = h
-  unless-linked owner.Close c h = h
-  unless-linked owner.Raise c h = h
-  unless-linked owner.Unmask c h = h
-
-  first-linked : (o : Owner) → LinkedBy (callBy n o stage.First p q y t) x → ⊥
-  first-linked owner.None h = h
-  first-linked owner.Bind h = h
-  first-linked owner.Close h = h
-  first-linked owner.Raise h = h
-  first-linked owner.Unmask h = h
+  unless-linked = unless (λ c. LinkedBy c x) (λ h. h)
 
   held-by : (o : Owner) (s : Stage) → (isFirst s ≡ false → isLinking o ≡ true) → HeldBy (callBy n o s p q y t) x → (isLinking o ≡ true) × (x ≡ p)
   held-by owner.None stage.First l h = absurd h
@@ -80,19 +62,23 @@ module _ (n p q y t x : ℕ) where
   held-by owner.Close stage.First l h = clash (h .0) refl
   held-by owner.Raise stage.First l h = (refl, h .1)
   held-by owner.Unmask stage.First l h = (refl, h .1)
-  held-by o stage.R2 l h = (l refl, unless-held o (raiseAt stage.R2) h .1)
-  held-by o stage.R3 l h = (l refl, unless-held o (raiseAt stage.R3) h)
-  held-by o stage.R4 l h = (l refl, unless-held o (raiseAt stage.R4) h)
-  held-by o stage.R5 l h = (l refl, unless-held o (raiseAt stage.R5) h)
-  held-by o stage.R6 l h = (l refl, unless-held o (raiseAt stage.R6) h)
+  held-by o stage.R2 l h = (l refl, unless-held o _ h .1)
+  held-by o stage.R3 l h = (l refl, unless-held o _ h)
+  held-by o stage.R4 l h = (l refl, unless-held o _ h)
+  held-by o stage.SetBusy l h = (l refl, unless-held o _ h)
+  held-by o stage.ClearBusy l h = (l refl, unless-held o _ h)
+  held-by o stage.R5 l h = (l refl, unless-held o _ h)
+  held-by o stage.R6 l h = (l refl, unless-held o _ h)
 
   linked-by : (o : Owner) (s : Stage) → LinkedBy (callBy n o s p q y t) x → (isFirst s ≡ false) × (hasLinked s ≡ true) × (x ≡ p)
-  linked-by o stage.First h = absurd (first-linked o h)
-  linked-by o stage.R2 h = absurd (unless-linked o (raiseAt stage.R2) h)
-  linked-by o stage.R3 h = (refl, refl, unless-linked o (raiseAt stage.R3) h)
-  linked-by o stage.R4 h = (refl, refl, unless-linked o (raiseAt stage.R4) h)
-  linked-by o stage.R5 h = (refl, refl, unless-linked o (raiseAt stage.R5) h)
-  linked-by o stage.R6 h = (refl, refl, unless-linked o (raiseAt stage.R6) h)
+  linked-by o stage.First h = absurd (first-asks (λ c. LinkedBy c x) n p q y t (λ h. h) (λ k h. h) o h)
+  linked-by o stage.R2 h = absurd (unless-linked o _ h)
+  linked-by o stage.R3 h = (refl, refl, unless-linked o _ h)
+  linked-by o stage.R4 h = (refl, refl, unless-linked o _ h)
+  linked-by o stage.SetBusy h = (refl, refl, unless-linked o _ h)
+  linked-by o stage.ClearBusy h = (refl, refl, unless-linked o _ h)
+  linked-by o stage.R5 h = (refl, refl, unless-linked o _ h)
+  linked-by o stage.R6 h = (refl, refl, unless-linked o _ h)
 
 served-by : (s : GuestStage) (p q x : ℕ) → HeldByService (guestCallBy s p q) x → (hasTaken s ≡ true) × (x ≡ p)
 served-by guestStage.None p q x h = absurd h
@@ -107,7 +93,7 @@ module _ {n : ℕ} {w : World} {h : List Event} (k : Good n w h) where
   call = w .domain .call
 
   -- only a raise or unmask makes R2 to R6
-  links : isFirst (call .stage) ≡ false → isLinking (call .owner) ≡ true
+  pub links : isFirst (call .stage) ≡ false → isLinking (call .owner) ≡ true
   links e = go (isLinking (call .owner)) refl
     where
       go : (b : Bool) → isLinking (call .owner) ≡ b → b ≡ true
@@ -126,10 +112,11 @@ module _ {n : ℕ} {w : World} {h : List Event} (k : Good n w h) where
   stands : (p : ℕ) → Stands (k .lists) p (viewOf n w .lastQueue p) → (q : ℕ) × StandsOn (k .lists) p q
   stands p s = (viewOf n w .lastQueue p, record { queue = lastQueue-lt (getD (w .ledger) p 0); once = s .once; only = λ r lt d. s .only r d })
 
-  rest : Rest w → claims.Rest (viewOf n w) (callOf n call) (alone (guestCallOf (w .guest .call)))
+  rest : Rest w → claims.Rest (viewOf n w) (callOf n call) (guestsOf w) (clearsOf n w)
   rest r = record {
     call = free-idle n call (r .hypervisor);
     service = rw (none-serving (w .guest .call) (r .guest)) alone-none;
+    clear = rw (none-clearing n (w .guest .clear) (r .clearing)) alone-clear-none;
     local = bits-none (w .guest .ready) (r .local);
     ready = bits-none (readyWord w) (r .ready);
   }
@@ -157,7 +144,7 @@ filled f a x e d (suc entries) (suc i) = filled f a x e d entries i
 pub fresh-good : (n : ℕ) (lent : List ℕ) (entries : ℕ) → 2 ^ n ≤ length lent → Good n (freshWorld lent entries) []
 fresh-good n lent entries le = record {
   lists = λ q. [];
-  inv = subst (λ v. Inv v idle (alone noService) (λ q. [])) (sym (agree (record {
+  inv = subst (λ v. Inv v idle (alone noService) (aloneClear noClear) (λ q. [])) (sym (agree (record {
     word = λ x. refl;
     size = refl;
     tail = filled (λ z. z) 0 0 refl refl 16;
@@ -168,11 +155,12 @@ fresh-good n lent entries le = record {
     guestHead = filled (λ z. z) 0 0 refl refl 16;
     local = bits-zero;
     owner = λ q. refl;
-  }))) (rw (fun-ext alone-none) (fresh-keeps (λ p. decoded n (getD lent p 0)) (λ q. 0)));
+  }))) (rw (fun-ext alone-none, fun-ext alone-clear-none) (fresh-keeps (λ p. decoded n (getD lent p 0)) (λ q. 0)));
   sizes = record { array = zero-le; lent = le; small = λ p lt. absurd (omega arith); block = refl; tails = refl; heads = refl };
   fit = fit-idle (length (replicate entries freshEntry));
   count = zero-le;
   guestQueue = lit≤ tt;
+  clearWord = lit≤ tt;
   order = λ q. refl;
 }
 

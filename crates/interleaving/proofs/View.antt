@@ -15,13 +15,17 @@ use Rattle.calls.specs.declared.types.Call as calls
 use Rattle.calls.specs.declared.types.GuestStage.{GuestStage}
 use Rattle.calls.specs.declared.types.GuestStage.the-variants as guestStage
 use Rattle.calls.specs.declared.types.GuestCall as guests
+use Rattle.calls.specs.declared.types.ClearStage.{ClearStage}
+use Rattle.calls.specs.declared.types.ClearStage.the-variants as clearStage
+use Rattle.calls.specs.declared.types.ClearCall as clears
 use Rattle.machine.specs.Exec.{World}
 use Rattle.queue.specs.Update.{update}
-use Rattle.queue.specs.Model.{Call, GuestCall, View}
+use Rattle.queue.specs.Model.{Call, GuestCall, ClearCall, View, alone, aloneClear}
 use Rattle.queue.specs.Model.Kind.{atR1, atR2, atU1, atBind, atClose}
-use Rattle.queue.specs.Model.Stage.{atR3, atR4, atR5, atR6}
+use Rattle.queue.specs.Model.Stage.{atR3, atR4, atSetBusy, atClearBusy, atR5, atR6}
 use Rattle.queue.specs.Model.Call.{idle, asks, holds}
 use Rattle.queue.specs.Model.GuestCall.{noService, atG0, atG1, atG2, atG3, atG4}
+use Rattle.queue.specs.Model.ClearCall.{noClear, atRead, atCas}
 use Rattle.queue.proofs.Cases.{split}
 use Rattle.queue.proofs.UpdateLaws.{update-same, update-other}
 use Rattle.interleaving.proofs.ReadyBits.{bitsOf}
@@ -93,6 +97,8 @@ callBy n o stage.First p q x t = firstOf o p
 callBy n o stage.R2 p q x t = unlessNone o (asks atR2 p)
 callBy n o stage.R3 p q x t = unlessNone o (holds q p atR3)
 callBy n o stage.R4 p q x t = unlessNone o (holds q p (atR4 (t - 1) (decoded n x)))
+callBy n o stage.SetBusy p q x t = unlessNone o (holds q p atSetBusy)
+callBy n o stage.ClearBusy p q x t = unlessNone o (holds q p atClearBusy)
 callBy n o stage.R5 p q x t = unlessNone o (holds q p atR5)
 callBy n o stage.R6 p q x t = unlessNone o (holds q p atR6)
 
@@ -109,6 +115,21 @@ guestCallBy guestStage.G4 p q = atG4 p
 
 abbrev pub guestCallOf : guests.GuestCall → GuestCall
 guestCallOf c = guestCallBy (c .stage) (c .port .0) (c .queue .0)
+
+abbrev pub clearCallBy : ℕ → ClearStage → ℕ → ℕ → ClearCall
+clearCallBy n clearStage.None p x = noClear
+clearCallBy n clearStage.Read p x = atRead p
+clearCallBy n clearStage.Cas p x = atCas p (decoded n x)
+
+abbrev pub clearCallOf : ℕ → clears.ClearCall → ClearCall
+clearCallOf n c = clearCallBy n (c .stage) (c .port .0) (c .word)
+
+-- the guests' services and clear_masks, of which there is one each
+abbrev pub guestsOf : World → ℕ → GuestCall
+guestsOf w = alone (guestCallOf (w .guest .call))
+
+abbrev pub clearsOf : ℕ → World → ℕ → ClearCall
+clearsOf n w = aloneClear (clearCallOf n (w .guest .clear))
 
 -- ---- a store in a list is a change of the function
 module _ {ℓ} {B : Type ℓ} (f : ℕ → B) where

@@ -1,5 +1,5 @@
 -- What the counts in the hypervisor's answers mean, on demand 3's terms: a count that is not 0 is the number of accesses made
--- since the last such answer, and these are at most 5 + `mostTries`, that is eight.
+-- since the last such answer, and these are at most 7 + `mostTries`, that is eleven.
 -- Assumes nothing.
 use Prim.Native.Nat.{ℕ, zero, suc, _+_, _^_, _≤_}
 use mathlib.Core.Path.{_≡_}
@@ -8,7 +8,7 @@ use lib.ListN.{length}
 use Rattle.machine.specs.Exec.{execAll}
 use Rattle.machine.specs.declared.types.Step.{Step}
 use Rattle.machine.specs.declared.types.Event.{Event}
-use Rattle.machine.specs.declared.types.Event.the-variants.{Nothing, HypervisorAccess, GuestAccess, MaskAccess, HypervisorAnswer, GuestAnswer}
+use Rattle.machine.specs.declared.types.Event.the-variants.{Nothing, HypervisorAccess, GuestAccess, ClearAccess, MaskAccess, HypervisorAnswer, GuestAnswer}
 use Rattle.queue.specs.Budget.{mostTries}
 use Rattle.interleaving.specs.Fresh.{freshWorld}
 use Rattle.interleaving.specs.Rules.{KeepsRules}
@@ -17,8 +17,9 @@ use Rattle.interleaving.specs.Rules.{KeepsRules}
 abbrev pub Counted : ℕ → List Event → Type 0
 Counted made [] = Unit {0}
 Counted made (Nothing ∷ es) = Counted made es
-Counted made (HypervisorAccess c a seen ∷ es) = (suc made ≤ 5 + mostTries) × Counted (suc made) es
+Counted made (HypervisorAccess c a seen ∷ es) = (suc made ≤ 7 + mostTries) × Counted (suc made) es
 Counted made (GuestAccess c a seen ∷ es) = Counted made es
+Counted made (ClearAccess c a seen ∷ es) = Counted made es
 Counted made (MaskAccess a seen ∷ es) = Counted made es
 Counted made (HypervisorAnswer a zero ∷ es) = Counted made es
 Counted made (HypervisorAnswer a (suc count) ∷ es) = (suc count ≡ made) × Counted 0 es

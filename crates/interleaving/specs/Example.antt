@@ -1,20 +1,22 @@
--- Demand 3 is not vacuous: a list of steps that keeps document 01's rules, with steps of every kind in it, and what it comes to.
+-- Demand 3 is not vacuous, nor is the claim on BUSY: a list of steps that keeps document 01's rules, with steps of every kind in it,
+-- and what it comes to.
 -- Assumes nothing.
 use Prim.Native.Nat.{ℕ, _+_, _^_, _≤_, _<_}
 use mathlib.Core.Path.{_≡_}
-use mathlib.Core.Bool.{true, false}
+use mathlib.Core.Bool.{true, false, cond}
 use mathlib.Core.List.{List, [], _∷_, _++_}
 use lib.ListN.{length, replicate}
-use Rattle.word.specs.declared.Flag.the-variants.{Pending, Masked, Linked}
+use Rattle.word.specs.declared.Flag.the-variants.{Pending, Masked, Linked, Busy}
 use Rattle.word.specs.Word.{linkBits, has, portAt}
 use Rattle.word.specs.Entry.{priorityAt}
-use Rattle.calls.specs.declared.types.Answer.the-variants.{CallUnderWay, NoCall}
-use Rattle.machine.specs.Exec.{World, Stepped, exec, execAll}
+use Rattle.calls.specs.declared.types.Answer.the-variants.{Done, CallUnderWay, NoCall, CallUnmask}
+use Rattle.machine.specs.Exec.{World, Stepped, isAnswer, exec, execAll}
 use Rattle.machine.specs.declared.types.Side.the-variants as side
 use Rattle.machine.specs.declared.types.Start.the-variants.{InitControl, ExpandArray, Bind, Close, SetPriority, Raise, Unmask}
-use Rattle.machine.specs.declared.types.GuestStart.the-variants.{Service, Mask, Tell}
+use Rattle.machine.specs.declared.types.GuestStart.the-variants.{Service, Mask, ClearMask, Tell}
 use Rattle.machine.specs.declared.types.Step.{Step}
 use Rattle.machine.specs.declared.types.Step.the-variants as step
+use Rattle.machine.specs.declared.types.Event.{Event}
 use Rattle.machine.specs.declared.types.Event.the-variants.{HypervisorAnswer, GuestAnswer}
 use Rattle.interleaving.specs.Fresh.{freshWorld, wordAt}
 use Rattle.interleaving.specs.Rules.{KeepsDocumentRules}
@@ -22,10 +24,11 @@ use Rattle.interleaving.specs.Histories.{takenIn, givenOut}
 use Rattle.interleaving.specs.Standing.{Standing}
 use Rattle.interleaving.specs.Held.{HeldByLinker, HeldByGuest}
 use Rattle.interleaving.specs.Claim.{Rest, Claim}
+use Rattle.interleaving.specs.Busy.{HasSetBusy}
 
 -- ---- steps in short
 
--- an access of the hypervisor's call, of the guest's, with its reply
+-- an access of the hypervisor's call, of the guest's service or clear_mask, with its reply
 abbrev x : Step
 x = step.Perform side.Hypervisor
 
@@ -34,6 +37,12 @@ g = step.Perform side.Guest
 
 abbrev tell : ℕ → Step
 tell words = step.Guest (Tell words)
+
+abbrev mask : ℕ → Step
+mask p = step.Guest (Mask (portAt p))
+
+abbrev clearMask : ℕ → Step
+clearMask p = step.Guest (ClearMask (portAt p))
 
 abbrev bind : ℕ → List Step
 bind p = step.Hypervisor (Bind (portAt p)) ∷ x ∷ []
@@ -59,7 +68,7 @@ raising = refusedStart ∷ refusedReply ∷ x ∷ x ∷ bind 9 ++ step.Hyperviso
 -- 5 is served, masked and raised, which leaves it pending; the unmask links it behind 9
 abbrev pub unmasking : List Step
 unmasking =
-    step.Guest Service ∷ g ∷ g ∷ g ∷ g ∷ g ∷ step.Guest (Mask (portAt 5)) ∷ step.Hypervisor (Raise (portAt 5)) ∷ x
+    step.Guest Service ∷ g ∷ g ∷ g ∷ g ∷ g ∷ mask 5 ∷ step.Hypervisor (Raise (portAt 5)) ∷ x
     ∷ step.Hypervisor (Unmask (portAt 5)) ∷ x ∷ x ∷ x ∷ x ∷ []
 
 -- a second page, whose port 1030 is raised with priority 3
@@ -68,22 +77,44 @@ expanding =
     step.Hypervisor (ExpandArray 3 4) ∷ tell 2048 ∷ bind 1030
     ++ step.Hypervisor (SetPriority (portAt 1030) (priorityAt 3)) ∷ step.Hypervisor (Raise (portAt 1030)) ∷ x ∷ x ∷ x ∷ x ∷ []
 
--- it is served first, and closed; 9 is served, and of 5's service G0 and G2 are made
+-- she masks 12 and clears its MASKED by a clear_mask, during which a service is refused
+abbrev pub clearing : List Step
+clearing = mask 12 ∷ clearMask 12 ∷ step.Guest Service ∷ g ∷ g ∷ []
+
+-- 12 is raised behind 1030; she masks 1030 after R3, so that the first cas is not taken, and BUSY is set
+abbrev pub marking : List Step
+marking =
+    bind 12 ++ step.Hypervisor (SetPriority (portAt 12) (priorityAt 3)) ∷ step.Hypervisor (Raise (portAt 12)) ∷ x ∷ x ∷ x ∷ mask 1030
+    ∷ x ∷ x ∷ []
+
+-- the second cas is taken; a clear_mask of 1030, which is pending, leaves its MASKED to an unmask
+abbrev pub leaving : List Step
+leaving = x ∷ clearMask 1030 ∷ g ∷ step.Hypervisor (Unmask (portAt 1030)) ∷ x ∷ []
+
+-- 1030 is served first, and closed; 12 is served
 abbrev pub serving : List Step
-serving =
-    step.Guest Service ∷ g ∷ g ∷ g ∷ g ∷ g ∷ step.Hypervisor (Close (portAt 1030)) ∷ x
-    ∷ step.Guest Service ∷ g ∷ g ∷ g ∷ g ∷ step.Guest Service ∷ g ∷ g ∷ []
+serving = step.Guest Service ∷ g ∷ g ∷ g ∷ g ∷ g ∷ step.Hypervisor (Close (portAt 1030)) ∷ x ∷ step.Guest Service ∷ g ∷ g ∷ g ∷ g ∷ []
+
+-- 9 is served, and of 5's service G0 and G2 are made
+abbrev pub holding : List Step
+holding = step.Guest Service ∷ g ∷ g ∷ g ∷ g ∷ step.Guest Service ∷ g ∷ g ∷ []
 
 -- that service ends, and another finds nothing
 abbrev pub ending : List Step
 ending = g ∷ g ∷ step.Guest Service ∷ g ∷ []
 
--- both are raised; 5 is taken
+-- both are raised; the second page is there; BUSY stands; 5 is taken
 abbrev pub raised : List Step
 raised = linking ++ raising
 
+abbrev pub grown : List Step
+grown = raised ++ unmasking ++ expanding
+
+abbrev pub marked : List Step
+marked = grown ++ clearing ++ marking
+
 abbrev pub taking : List Step
-taking = raised ++ unmasking ++ expanding ++ serving
+taking = marked ++ leaving ++ serving ++ holding
 
 abbrev pub example : List Step
 example = taking ++ ending
@@ -93,6 +124,11 @@ example = taking ++ ending
 -- lent words of 1, and behind two pages any others; entries up to port 1030
 abbrev pub start : List ℕ → World
 start rest = freshWorld (replicate 2048 1 ++ rest) 1031
+
+-- the answers among events
+abbrev pub answers : List Event → List Event
+answers [] = []
+answers (e ∷ es) = cond (isAnswer e) (e ∷ answers es) (answers es)
 
 -- port p is pending and not masked, and no port stands on a queue
 pub record OnNoQueue (w : World) (p : ℕ) : Type 0 where
@@ -109,14 +145,20 @@ module _ (rest : List ℕ) where
     -- the raises of 5 and 9 and the unmask of 5 are taken in, and given out, in that order
     pub taken : takenIn 7 (after example .events) ≡ 5 ∷ 9 ∷ 5 ∷ []
     pub given : givenOut 7 (after example .events) ≡ 5 ∷ 9 ∷ 5 ∷ []
-    pub taken-3 : takenIn 3 (after example .events) ≡ 1030 ∷ []
-    pub given-3 : givenOut 3 (after example .events) ≡ 1030 ∷ []
+    pub taken-3 : takenIn 3 (after example .events) ≡ 1030 ∷ 12 ∷ []
+    pub given-3 : givenOut 3 (after example .events) ≡ 1030 ∷ 12 ∷ []
     pub atRest : Rest (after example .world)
     -- on a queue: 5 and then 9
     pub standing : Standing linkBits (after raised .world) 7 (5 ∷ 9 ∷ [])
     -- or held: 5, which the raise has linked, and which the service has taken
     pub heldByRaise : OnNoQueue (after linking .world) 5 × (has Linked (wordAt (after linking .world) 5) ≡ true) × HeldByLinker (after linking .world .domain .call) 5
     pub heldByService : OnNoQueue (after taking .world) 5 × HeldByGuest (after taking .world .guest .call) 5
+    -- the mask, the refused service, the clear_mask with its two accesses
+    pub cleared : answers (execAll linkBits (after grown .world) clearing .events) ≡ GuestAnswer Done 1 ∷ GuestAnswer CallUnderWay 0 ∷ GuestAnswer Done 2 ∷ []
+    -- BUSY stands in the word of 1030, behind which 12 is to be linked
+    pub busy : HasSetBusy (after marked .world) 1030 × (has Busy (wordAt (after marked .world) 1030) ≡ true)
+    -- the raise of 12, with its six accesses; the clear_mask of 1030; the unmask
+    pub left : answers (execAll linkBits (after marked .world) leaving .events) ≡ HypervisorAnswer Done 6 ∷ GuestAnswer CallUnmask 1 ∷ HypervisorAnswer Done 1 ∷ []
     -- the refusals
     pub fifteen : exec linkBits (after linking .world) refusedStart .events ≡ HypervisorAnswer CallUnderWay 0 ∷ []
     pub sixteen : exec linkBits (after linking .world) refusedReply .events ≡ GuestAnswer NoCall 0 ∷ []

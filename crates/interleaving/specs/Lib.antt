@@ -5,6 +5,7 @@ pub mod Standing
 pub mod Held
 pub mod Claim
 pub mod Demand3
+pub mod Busy
 pub mod Refused
 pub mod Example
 pub mod Reach

@@ -1,4 +1,4 @@
--- Document 01's log of C1's raise, byte for byte, and lines that it has none of: a cas, a read, an answer with its port, each call.
+-- Document 01's log of C1's raise, byte for byte, and lines that it has none of: a cas, a read, an answer with its port, each call, answer 35.
 -- Assumes nothing.
 use mathlib.Core.Path.{_≡_, refl}
 use mathlib.Core.List.{List, [], _∷_, map}
@@ -6,7 +6,7 @@ use Prim.Native.String.{String}
 use Rattle.word.specs.Word.{portAt, queueAt}
 use Rattle.calls.specs.declared.types.Place.the-variants.{Word, Ready, Head}
 use Rattle.calls.specs.declared.types.Access.the-variants.{Read, Store, Or, Cas}
-use Rattle.calls.specs.declared.types.Answer.the-variants.{UpcallWanted, HandedOver}
+use Rattle.calls.specs.declared.types.Answer.the-variants.{UpcallWanted, HandedOver, CallUnmask}
 use Rattle.calls.specs.Answers.{codeOf}
 use Rattle.machine.specs.declared.types.Side.the-variants.{Hypervisor, Guest}
 use Rattle.log.specs.declared.line.LoggedCall.the-variants as call
@@ -36,6 +36,8 @@ lines =
     ∷ Call (call.Unmask (portAt 5))
     ∷ Call call.Service
     ∷ Call (call.Mask (portAt 5))
+    ∷ Call (call.ClearMask (portAt 5))
+    ∷ answerLine Guest CallUnmask
     ∷ []
 
 texts : List String
@@ -58,6 +60,8 @@ texts =
     ∷ "X\tcall\tunmask\t5\t-\t-\n"
     ∷ "G\tcall\tservice\t-\t-\t-\n"
     ∷ "G\tcall\tmask\t5\t-\t-\n"
+    ∷ "G\tcall\tclear_mask\t5\t-\t-\n"
+    ∷ "G\tanswer\t35\t-\t-\t-\n"
     ∷ []
 
 written : map bytesOf lines ≡ map ascii texts

@@ -12,7 +12,7 @@ use Rattle.machine.specs.declared.types.Side.{Side}
 use Rattle.machine.specs.declared.types.Side.the-variants.{Hypervisor, Guest}
 use Rattle.word.specs.Word.{portAt, queueAt}
 use Rattle.log.specs.declared.line.LoggedCall.{LoggedCall}
-use Rattle.log.specs.declared.line.LoggedCall.the-variants.{InitControl, ExpandArray, Bind, Close, SetPriority, Raise, Unmask, Service, Mask}
+use Rattle.log.specs.declared.line.LoggedCall.the-variants.{InitControl, ExpandArray, Bind, Close, SetPriority, Raise, Unmask, Service, Mask, ClearMask}
 use Rattle.log.specs.declared.line.Line.{Line}
 use Rattle.log.specs.declared.line.Line.the-variants as line
 use Rattle.log.specs.Line.{ascii, decimal, dash, sideOf, placeOf, row, accessBytes, callBytes, bytesOf, carriesPort, LegalPlace, LegalAccess, LegalCall, Legal}
@@ -114,6 +114,8 @@ call-back (Unmask p) h =
     fields Hypervisor _ _ _ _ _ refl refl (decimal-plain (p .0)) refl refl ∙ simp (no-header Hypervisor, decimal-value (p .0) h)
 call-back Service h = fields Guest _ _ _ _ _ refl refl refl refl refl ∙ simp (no-header Guest)
 call-back (Mask p) h =
+    fields Guest _ _ _ _ _ refl refl (decimal-plain (p .0)) refl refl ∙ simp (no-header Guest, decimal-value (p .0) h)
+call-back (ClearMask p) h =
     fields Guest _ _ _ _ _ refl refl (decimal-plain (p .0)) refl refl ∙ simp (no-header Guest, decimal-value (p .0) h)
 
 -- ---- every legal line

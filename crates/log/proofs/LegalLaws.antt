@@ -14,7 +14,7 @@ use Rattle.calls.specs.declared.types.Place.the-variants as place
 use Rattle.calls.specs.declared.types.Access.the-variants.{Read, Store, Or, And, Swap, Cas}
 use Rattle.machine.specs.declared.types.Side.{Side}
 use Rattle.log.specs.declared.line.LoggedCall.{LoggedCall}
-use Rattle.log.specs.declared.line.LoggedCall.the-variants.{InitControl, ExpandArray, Bind, Close, SetPriority, Raise, Unmask, Service, Mask}
+use Rattle.log.specs.declared.line.LoggedCall.the-variants.{InitControl, ExpandArray, Bind, Close, SetPriority, Raise, Unmask, Service, Mask, ClearMask}
 use Rattle.log.specs.declared.line.Line.{Line}
 use Rattle.log.specs.declared.line.Line.the-variants as line
 use Rattle.log.specs.Line.{ascii, carriesPort, LegalPlace, LegalAccess, LegalCall, Legal}
@@ -56,31 +56,33 @@ access-by false false false true e s p old operand seen h i j k = (h, j, k)
 access-by false false false false true s p old operand seen h i j k = (h, j, k)
 access-by false false false false false s p old operand seen h i j k = (h, i, j, k)
 
-call-by : (a b c d e f g i : Bool) (x y z : ℕ) → x < 2 ^ 32 → y < 2 ^ 32 → z < 2 ^ 32 →
+call-by : (a b c d e f g i j : Bool) (x y z : ℕ) → x < 2 ^ 32 → y < 2 ^ 32 → z < 2 ^ 32 →
     LegalCall (cond a (Raise (portAt x))
     (cond b Service
     (cond c (Mask (portAt x))
     (cond d (Unmask (portAt x))
-    (cond e (Bind (portAt x))
-    (cond f (Close (portAt x))
-    (cond g (SetPriority (portAt x) (priorityAt y))
-    (cond i (ExpandArray y)
-    (InitControl x y z)))))))))
+    (cond e (ClearMask (portAt x))
+    (cond f (Bind (portAt x))
+    (cond g (Close (portAt x))
+    (cond i (SetPriority (portAt x) (priorityAt y))
+    (cond j (ExpandArray y)
+    (InitControl x y z))))))))))
 unfolding LegalCall
-call-by true b c d e f g i x y z h k l = h
-call-by false true c d e f g i x y z h k l = tt
-call-by false false true d e f g i x y z h k l = h
-call-by false false false true e f g i x y z h k l = h
-call-by false false false false true f g i x y z h k l = h
-call-by false false false false false true g i x y z h k l = h
-call-by false false false false false false true i x y z h k l = (h, k)
-call-by false false false false false false false true x y z h k l = k
-call-by false false false false false false false false x y z h k l = (h, k, l)
+call-by true b c d e f g i j x y z h k l = h
+call-by false true c d e f g i j x y z h k l = tt
+call-by false false true d e f g i j x y z h k l = h
+call-by false false false true e f g i j x y z h k l = h
+call-by false false false false true f g i j x y z h k l = h
+call-by false false false false false true g i j x y z h k l = h
+call-by false false false false false false true i j x y z h k l = h
+call-by false false false false false false false true j x y z h k l = (h, k)
+call-by false false false false false false false false true x y z h k l = k
+call-by false false false false false false false false false x y z h k l = (h, k, l)
 
 call-legal : (name : List ℕ) (x y z : ℕ) → x < 2 ^ 32 → y < 2 ^ 32 → z < 2 ^ 32 → LegalCall (guessCall name x y z)
 call-legal name x y z =
-    call-by (same name (ascii "raise")) (same name (ascii "service")) (same name (ascii "mask")) (same name (ascii "unmask")) (same name (ascii "bind"))
-    (same name (ascii "close")) (same name (ascii "set_priority")) (same name (ascii "expand_array")) x y z
+    call-by (same name (ascii "raise")) (same name (ascii "service")) (same name (ascii "mask")) (same name (ascii "unmask")) (same name (ascii "clear_mask"))
+    (same name (ascii "bind")) (same name (ascii "close")) (same name (ascii "set_priority")) (same name (ascii "expand_array")) x y z
 
 answer-by : (b : Bool) (s : Side) (n p : ℕ) → carriesPort n ≡ b → n < 2 ^ 32 → p < 2 ^ 32 → Legal (cond b (line.PortAnswer s n (portAt p)) (line.Answer s n))
 unfolding Legal

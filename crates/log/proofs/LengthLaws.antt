@@ -11,7 +11,7 @@ use Rattle.calls.specs.declared.types.Access.the-variants.{Read, Store, Or, And
 use Rattle.machine.specs.declared.types.Side.{Side}
 use Rattle.machine.specs.declared.types.Side.the-variants.{Hypervisor, Guest}
 use Rattle.log.specs.declared.line.LoggedCall.{LoggedCall}
-use Rattle.log.specs.declared.line.LoggedCall.the-variants.{InitControl, ExpandArray, Bind, Close, SetPriority, Raise, Unmask, Service, Mask}
+use Rattle.log.specs.declared.line.LoggedCall.the-variants.{InitControl, ExpandArray, Bind, Close, SetPriority, Raise, Unmask, Service, Mask, ClearMask}
 use Rattle.log.specs.declared.line.Line.{Line}
 use Rattle.log.specs.declared.line.Line.the-variants as line
 use Rattle.log.specs.Line.{places, decimal, hex8, sideOf, placeOf, row, accessBytes, callBytes, bytesOf}
@@ -61,6 +61,7 @@ call-fits (Raise p) = row-fits Hypervisor _ _ _ _ _ (omega (arith, decimal-fits 
 call-fits (Unmask p) = row-fits Hypervisor _ _ _ _ _ (omega (arith, decimal-fits (p .0)))
 call-fits Service = row-fits Guest _ _ _ _ _ (omega arith)
 call-fits (Mask p) = row-fits Guest _ _ _ _ _ (omega (arith, decimal-fits (p .0)))
+call-fits (ClearMask p) = row-fits Guest _ _ _ _ _ (omega (arith, decimal-fits (p .0)))
 
 pub line-fits : (l : Line) → length (bytesOf l) ≤ 53
 unfolding bytesOf
@@ -97,6 +98,7 @@ call-some (Raise p) = row-some Hypervisor _ _ _ _ _
 call-some (Unmask p) = row-some Hypervisor _ _ _ _ _
 call-some Service = row-some Guest _ _ _ _ _
 call-some (Mask p) = row-some Guest _ _ _ _ _
+call-some (ClearMask p) = row-some Guest _ _ _ _ _
 
 pub line-some : (l : Line) → 0 < length (bytesOf l)
 unfolding bytesOf

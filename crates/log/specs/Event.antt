@@ -11,7 +11,7 @@ use Rattle.calls.specs.Answers.{codeOf}
 use Rattle.machine.specs.declared.types.Side.{Side}
 use Rattle.machine.specs.declared.types.Side.the-variants as side
 use Rattle.machine.specs.declared.types.Event.{Event}
-use Rattle.machine.specs.declared.types.Event.the-variants.{Nothing, HypervisorAccess, GuestAccess, MaskAccess, HypervisorAnswer, GuestAnswer}
+use Rattle.machine.specs.declared.types.Event.the-variants.{Nothing, HypervisorAccess, GuestAccess, ClearAccess, MaskAccess, HypervisorAnswer, GuestAnswer}
 use Rattle.log.specs.declared.line.Line.{Line}
 use Rattle.log.specs.declared.line.Line.the-variants as line
 use Rattle.log.specs.declared.event.Logged.{Logged}
@@ -42,6 +42,7 @@ unfoldable pub lineOf : Event → Logged
 lineOf Nothing = logged.None
 lineOf (HypervisorAccess c a seen) = logged.Line (accessLine side.Hypervisor a seen)
 lineOf (GuestAccess c a seen) = logged.Line (accessLine side.Guest a seen)
+lineOf (ClearAccess c a seen) = logged.Line (accessLine side.Guest a seen)
 lineOf (MaskAccess a seen) = logged.Line (accessLine side.Guest a seen)
 lineOf (HypervisorAnswer a count) = logged.Line (answerLine side.Hypervisor a)
 lineOf (GuestAnswer a count) = logged.Line (answerLine side.Guest a)

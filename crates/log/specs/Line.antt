@@ -1,4 +1,4 @@
--- The access log of document 01, with call lines (T-02): the bytes of every line, and which lines are legal.
+-- The access log of document 01, with call lines (T-02, T-05): the bytes of every line, and which lines are legal.
 -- Assumes nothing.
 use Prim.Native.Nat.{ℕ, zero, suc, _+_, _-_, _/_, _%_, _^_, _<_}
 use Prim.Native.Char.{code}
@@ -14,7 +14,7 @@ use Rattle.calls.specs.declared.types.Access.the-variants.{Read, Store, Or, And
 use Rattle.machine.specs.declared.types.Side.{Side}
 use Rattle.machine.specs.declared.types.Side.the-variants.{Hypervisor, Guest}
 use Rattle.log.specs.declared.line.LoggedCall.{LoggedCall}
-use Rattle.log.specs.declared.line.LoggedCall.the-variants.{InitControl, ExpandArray, Bind, Close, SetPriority, Raise, Unmask, Service, Mask}
+use Rattle.log.specs.declared.line.LoggedCall.the-variants.{InitControl, ExpandArray, Bind, Close, SetPriority, Raise, Unmask, Service, Mask, ClearMask}
 use Rattle.log.specs.declared.line.Line.{Line}
 use Rattle.log.specs.declared.line.Line.the-variants as line
 pub mod Parts
@@ -95,6 +95,7 @@ callBytes (Raise port) = row Hypervisor (ascii "call") (ascii "raise") (decimal 
 callBytes (Unmask port) = row Hypervisor (ascii "call") (ascii "unmask") (decimal (port .0)) dash dash
 callBytes Service = row Guest (ascii "call") (ascii "service") dash dash dash
 callBytes (Mask port) = row Guest (ascii "call") (ascii "mask") (decimal (port .0)) dash dash
+callBytes (ClearMask port) = row Guest (ascii "call") (ascii "clear_mask") (decimal (port .0)) dash dash
 
 unfoldable pub bytesOf : Line → List ℕ
 bytesOf line.Header = ascii "accesses\t1\n"
@@ -136,6 +137,7 @@ LegalCall (Raise port) = Small (port .0)
 LegalCall (Unmask port) = Small (port .0)
 LegalCall Service = Unit {0}
 LegalCall (Mask port) = Small (port .0)
+LegalCall (ClearMask port) = Small (port .0)
 
 -- every number is below 2 ^ 32, and an answer has a port exactly if its number carries one
 unfoldable pub Legal : Line → Type 0

@@ -15,7 +15,7 @@ use Rattle.calls.specs.declared.types.Access.the-variants.{Read, Store, Or, And
 use Rattle.machine.specs.declared.types.Side.{Side}
 use Rattle.machine.specs.declared.types.Side.the-variants.{Hypervisor, Guest}
 use Rattle.log.specs.declared.line.LoggedCall.{LoggedCall}
-use Rattle.log.specs.declared.line.LoggedCall.the-variants.{InitControl, ExpandArray, Bind, Close, SetPriority, Raise, Unmask, Service, Mask}
+use Rattle.log.specs.declared.line.LoggedCall.the-variants.{InitControl, ExpandArray, Bind, Close, SetPriority, Raise, Unmask, Service, Mask, ClearMask}
 use Rattle.log.specs.declared.line.Line.{Line}
 use Rattle.log.specs.declared.line.Line.the-variants as line
 use Rattle.log.specs.declared.read.Kind.{Kind}
@@ -77,11 +77,12 @@ guessCall name first second third =
     (cond (same name (ascii "service")) Service
     (cond (same name (ascii "mask")) (Mask (portAt first))
     (cond (same name (ascii "unmask")) (Unmask (portAt first))
+    (cond (same name (ascii "clear_mask")) (ClearMask (portAt first))
     (cond (same name (ascii "bind")) (Bind (portAt first))
     (cond (same name (ascii "close")) (Close (portAt first))
     (cond (same name (ascii "set_priority")) (SetPriority (portAt first) (priorityAt second))
     (cond (same name (ascii "expand_array")) (ExpandArray second)
-    (InitControl first second third))))))))
+    (InitControl first second third)))))))))
 
 abbrev pub guessAnswer : Side → ℕ → ℕ → Line
 guessAnswer side number port = cond (carriesPort number) (line.PortAnswer side number (portAt port)) (line.Answer side number)

@@ -77,6 +77,10 @@ pub fn line_of(event: Event) -> Logged
             let line = access_line(Side::Guest, access, seen);
             Logged::Line(line)
         }
+        Event::ClearAccess(_, access, seen) => {
+            let line = access_line(Side::Guest, access, seen);
+            Logged::Line(line)
+        }
         Event::MaskAccess(access, seen) => {
             let line = access_line(Side::Guest, access, seen);
             Logged::Line(line)

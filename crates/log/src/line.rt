@@ -31,6 +31,7 @@ pub enum LoggedCall {
     Unmask(Port),
     Service,
     Mask(Port),
+    ClearMask(Port),
 }
 
 // The header; an access with the word seen, 0 of a store; an answer's number; an answer's number with its port; a call.
@@ -144,6 +145,16 @@ fn put_call(out: &mut [u8], call: LoggedCall) -> usize
         LoggedCall::Service => put_call_row(out, Side::Guest, b"service", dash, dash, dash),
         LoggedCall::Mask(p) => {
             put_call_row(out, Side::Guest, b"mask", Field::Number(p.0), dash, dash)
+        }
+        LoggedCall::ClearMask(p) => {
+            put_call_row(
+                out,
+                Side::Guest,
+                b"clear_mask",
+                Field::Number(p.0),
+                dash,
+                dash,
+            )
         }
     }
 }

@@ -176,6 +176,10 @@ fn guess_call(name: &[u8], first: u32, second: u32, third: u32) -> LoggedCall
     if unmask {
         return LoggedCall::Unmask(port);
     }
+    let clear = same(name, b"clear_mask");
+    if clear {
+        return LoggedCall::ClearMask(port);
+    }
     let bind = same(name, b"bind");
     if bind {
         return LoggedCall::Bind(port);

@@ -19,24 +19,25 @@ use Rattle.calls.specs.declared.types.Masking.the-variants as masking
 use Rattle.calls.specs.declared.types.Domain.{Domain}
 use Rattle.calls.specs.declared.types.Outcome.{Outcome}
 use Rattle.calls.specs.Answers.{codeOf}
-use Rattle.calls.specs.Records.{isPort, isFree}
-use Rattle.calls.specs.Guest.{isServing, maskOf, guestDueOf}
+use Rattle.calls.specs.Records.{isPort, isFree, isClearing}
+use Rattle.calls.specs.Guest.{isServing, maskOf}
+use Rattle.calls.specs.ClearMask.{guestReply, guestDueOf}
 use Rattle.calls.specs.Hypervisor.{dueOf, expandArray}
 use Rattle.calls.specs.Claims as acts
-use Rattle.calls.specs.Claims.{Act, Starts, Replies, GuestAct, Serves, ServiceReplies, Tells, turnOf, guestTurnOf, lent, isReply, isGuestReply, isRefusal}
+use Rattle.calls.specs.Claims.{Act, Starts, Replies, GuestAct, Serves, ClearsMask, GuestReplies, Tells, turnOf, guestTurnOf, lent, isReply, isGuestReply, isRefusal}
 use Rattle.calls.proofs.Cases.{choose, no-access, other-answer}
 use Rattle.calls.proofs.HypervisorClaims.{next-answer}
-use Rattle.calls.proofs.GuestClaims.{guest-next-answer}
+use Rattle.calls.proofs.GuestClaims.{guest-due-none}
 use Rattle.machine.specs.declared.types.Side.the-variants as side
 use Rattle.machine.specs.declared.types.Start.{Start}
 use Rattle.machine.specs.declared.types.Start.the-variants.{InitControl, ExpandArray, Bind, Close, SetPriority, Raise, Unmask}
-use Rattle.machine.specs.declared.types.GuestStart.the-variants.{Service, Mask, Tell}
+use Rattle.machine.specs.declared.types.GuestStart.the-variants.{Service, Mask, ClearMask, Tell}
 use Rattle.machine.specs.declared.types.Step.{Step}
 use Rattle.machine.specs.declared.types.Step.the-variants as step
 use Rattle.machine.specs.declared.types.Event.{Event}
-use Rattle.machine.specs.declared.types.Event.the-variants.{Nothing, HypervisorAccess, GuestAccess, MaskAccess}
+use Rattle.machine.specs.declared.types.Event.the-variants.{Nothing, HypervisorAccess, GuestAccess, ClearAccess, MaskAccess}
 use Rattle.machine.specs.Memory.{Memory, memory, performed}
-use Rattle.machine.specs.Exec.{World, Advanced, advanced, listOf, hypervisorAdvance, guestAdvance, isAnswer, hypervisorStep, guestStep, pageAdded, expandOf, startOf, performHypervisorNext, performHypervisor, performGuestNext, performGuest, performMasking, performMask, guestStartOf, performSide, handBack, advanceOf, isReplyStep, memoryAfter}
+use Rattle.machine.specs.Exec.{World, Advanced, advanced, listOf, hypervisorAdvance, guestAdvance, isAnswer, hypervisorStep, guestStep, pageAdded, expandOf, startOf, performHypervisorNext, performHypervisor, guestAccess, performGuestNext, performGuest, performMasking, performMask, guestReplied, guestStartOf, performSide, handBack, advanceOf, isReplyStep, memoryAfter}
 
 -- what a step did: an act with the ledger of w, and the access made before, which is Nothing but at a reply to a call under
 -- way; or a mask
@@ -46,7 +47,7 @@ pub data Acted (n : ℕ) (w : World) (s : Step) : Advanced → Type 0 where
       (turnOf n (w .domain) act .outcome .domain .pages ≡ w .domain .pages → m ≡ memoryAfter (w .memory) (listOf access)) →
       Acted n w s (advanced (hypervisorAdvance (record { outcome = turnOf n (w .domain) act .outcome; access = access }) (w .guest)) (turnOf n (w .domain) act .ledger) m)
   byGuest : (act : GuestAct) (access : Event) → isGuestReply act ≡ isReplyStep s → isAnswer access ≡ false →
-      ((isGuestReply act ≡ true → isServing (w .guest .call .stage) ≡ false) → access ≡ Nothing) →
+      ((isGuestReply act ≡ true → (isClearing (w .guest .clear .stage) ≡ false) × (isServing (w .guest .call .stage) ≡ false)) → access ≡ Nothing) →
       Acted n w s (advanced (guestAdvance (record { outcome = guestTurnOf n (w .guest) act; access = access }) (w .domain)) (w .ledger) (memoryAfter (w .memory) (listOf access)))
   byMask : {a : Answer} {count : ℕ} (access : Event) → a ≢ BadIndex → isReplyStep s ≡ false → isAnswer access ≡ false → (isRefusal a ≡ true → access ≡ Nothing) →
       Acted n w s (advanced (guestAdvance (record { outcome = record { guest = w .guest; next = next.Answer a count }; access = access }) (w .domain)) (w .ledger) (memoryAfter (w .memory) (listOf access)))
@@ -96,18 +97,23 @@ module _ (n : ℕ) (w : World) where
   hypervisor-acted (next.Answer a count) h = byHypervisor (Replies 0 (w .ledger)) Nothing _ refl refl refl (λ q. refl) (λ e. refl)
 
   guest-acted : (x : Next) → guestDueOf n (w .guest) ≡ x → Acted n w (step.Perform side.Guest) (guestStep w (performGuestNext n (w .guest) (w .memory) x))
+  unfolding guestAccess
   guest-acted (next.Access a) h =
-      byGuest (ServiceReplies (performed (w .memory) a .seen)) (GuestAccess (w .guest .call) a (performed (w .memory) a .seen)) refl refl
-      (λ q. absurd (no-access (sym (guest-next-answer n (w .guest) NoCall 0 (q refl)) ∙ h)))
-  guest-acted (next.Answer a count) h = byGuest (ServiceReplies 0) Nothing refl refl (λ q. refl)
+      choose (λ e. Acted n w (step.Perform side.Guest) (guestStep w (guestReplied (guestReply n (w .guest) (performed (w .memory) a .seen)) e (performed (w .memory) a .memory)))) (isClearing (w .guest .clear .stage))
+      (by (ClearAccess (w .guest .clear) a (performed (w .memory) a .seen)) refl refl) (by (GuestAccess (w .guest .call) a (performed (w .memory) a .seen)) refl refl)
+    where
+      by : (e : Event) → isAnswer e ≡ false → memoryAfter (w .memory) (listOf e) ≡ performed (w .memory) a .memory → Acted n w (step.Perform side.Guest) (guestStep w (guestReplied (guestReply n (w .guest) (performed (w .memory) a .seen)) e (performed (w .memory) a .memory)))
+      by e none same = rw (← same) (byGuest (GuestReplies (performed (w .memory) a .seen)) e refl none (λ q. absurd (no-access (sym (guest-due-none n (w .guest) (q refl .0) (q refl .1)) ∙ h))))
+  guest-acted (next.Answer a count) h = byGuest (GuestReplies 0) Nothing refl refl (λ q. refl)
 
   pub acted : (s : Step) → Acted n w s (advanceOf n w s)
   unfolding advanceOf guestStartOf performMask performSide performHypervisor performGuest handBack
   acted (step.Hypervisor s) = start-acted s
   acted (step.Guest Service) = byGuest Serves Nothing refl refl (λ q. refl)
   acted (step.Guest (Mask p)) = mask-acted p (maskOf n p (w .guest .words)) (masks n p (w .guest .words))
+  acted (step.Guest (ClearMask p)) = byGuest (ClearsMask p) Nothing refl refl (λ q. refl)
   acted (step.Guest (Tell words)) = byGuest (Tells words) Nothing refl refl (λ q. refl)
   acted (step.Perform side.Hypervisor) = hypervisor-acted (dueOf n (w .domain)) refl
   acted (step.Perform side.Guest) = guest-acted (guestDueOf n (w .guest)) refl
   acted (step.HandBack side.Hypervisor word) = byHypervisor (Replies word (w .ledger)) Nothing _ refl refl refl (λ q. refl) (λ e. refl)
-  acted (step.HandBack side.Guest word) = byGuest (ServiceReplies word) Nothing refl refl (λ q. refl)
+  acted (step.HandBack side.Guest word) = byGuest (GuestReplies word) Nothing refl refl (λ q. refl)

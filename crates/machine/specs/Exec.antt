@@ -16,18 +16,20 @@ use Rattle.calls.specs.declared.types.Outcome.{Outcome}
 use Rattle.calls.specs.declared.types.Guest.{Guest}
 use Rattle.calls.specs.declared.types.GuestOutcome.{GuestOutcome}
 use Rattle.calls.specs.Hypervisor.{Turn, turn, initControl, expandArray, bindStart, closeStart, setPriority, raiseStart, unmaskStart, replyOf, dueOf}
-use Rattle.calls.specs.Guest.{serviceStart, serviceReply, guestDueOf, maskOf, tellOf}
+use Rattle.calls.specs.Records.{isClearing}
+use Rattle.calls.specs.Guest.{serviceStart, maskOf, tellOf}
+use Rattle.calls.specs.ClearMask.{clearMaskStart, guestReply, guestDueOf}
 use Rattle.machine.specs.Memory.{Memory, memory, performed, zeroPage}
 use Rattle.machine.specs.declared.types.Side.{Side}
 use Rattle.machine.specs.declared.types.Side.the-variants as side
 use Rattle.machine.specs.declared.types.Start.{Start}
 use Rattle.machine.specs.declared.types.Start.the-variants.{InitControl, ExpandArray, Bind, Close, SetPriority, Raise, Unmask}
 use Rattle.machine.specs.declared.types.GuestStart.{GuestStart}
-use Rattle.machine.specs.declared.types.GuestStart.the-variants.{Service, Mask, Tell}
+use Rattle.machine.specs.declared.types.GuestStart.the-variants.{Service, Mask, ClearMask, Tell}
 use Rattle.machine.specs.declared.types.Step.{Step}
 use Rattle.machine.specs.declared.types.Step.the-variants as step
 use Rattle.machine.specs.declared.types.Event.{Event}
-use Rattle.machine.specs.declared.types.Event.the-variants.{Nothing, HypervisorAccess, GuestAccess, MaskAccess, HypervisorAnswer, GuestAnswer}
+use Rattle.machine.specs.declared.types.Event.the-variants.{Nothing, HypervisorAccess, GuestAccess, ClearAccess, MaskAccess, HypervisorAnswer, GuestAnswer}
 use Rattle.machine.specs.declared.types.HypervisorTurn.{HypervisorTurn}
 use Rattle.machine.specs.declared.types.GuestTurn.{GuestTurn}
 use Rattle.machine.specs.declared.types.Sides.{Sides}
@@ -49,6 +51,7 @@ abbrev pub listOf : Event → List Event
 listOf Nothing = []
 listOf (HypervisorAccess c a seen) = HypervisorAccess c a seen ∷ []
 listOf (GuestAccess c a seen) = GuestAccess c a seen ∷ []
+listOf (ClearAccess c a seen) = ClearAccess c a seen ∷ []
 listOf (MaskAccess a seen) = MaskAccess a seen ∷ []
 listOf (HypervisorAnswer a count) = HypervisorAnswer a count ∷ []
 listOf (GuestAnswer a count) = GuestAnswer a count ∷ []
@@ -155,10 +158,13 @@ guestDid t m = record { turn = t; memory = m }
 abbrev pub guestReplied : GuestOutcome → Event → Memory → GuestDid
 guestReplied o access m = guestDid (record { outcome = o; access = access }) m
 
+-- her access: the clear_mask's while one is under way, else the service's
+unfoldable pub guestAccess : Guest → Access → ℕ → Event
+guestAccess g a seen = cond (isClearing (g .clear .stage)) (ClearAccess (g .clear) a seen) (GuestAccess (g .call) a seen)
+
 abbrev pub performGuestNext : ℕ → Guest → Memory → Next → GuestDid
-performGuestNext n g m (next.Access a) =
-    guestReplied (serviceReply n g (performed m a .seen)) (GuestAccess (g .call) a (performed m a .seen)) (performed m a .memory)
-performGuestNext n g m (next.Answer a count) = guestReplied (serviceReply n g 0) Nothing m
+performGuestNext n g m (next.Access a) = guestReplied (guestReply n g (performed m a .seen)) (guestAccess g a (performed m a .seen)) (performed m a .memory)
+performGuestNext n g m (next.Answer a count) = guestReplied (guestReply n g 0) Nothing m
 
 unfoldable pub performGuest : ℕ → Guest → Memory → GuestDid
 performGuest n g m = performGuestNext n g m (guestDueOf n g)
@@ -175,6 +181,7 @@ performMask n g m p = performMasking g m (maskOf n p (g .words))
 unfoldable pub guestStartOf : ℕ → Guest → Memory → GuestStart → GuestDid
 guestStartOf n g m Service = guestReplied (serviceStart n g) Nothing m
 guestStartOf n g m (Mask p) = performMask n g m p
+guestStartOf n g m (ClearMask p) = guestReplied (clearMaskStart n g p) Nothing m
 guestStartOf n g m (Tell words) = guestReplied (tellOf g words) Nothing m
 
 -- ---- a step
@@ -203,7 +210,7 @@ replied a ledger = record { advance = a; ledger = ledger }
 unfoldable pub handBack : ℕ → Domain → Guest → List ℕ → Side → ℕ → Replied
 handBack n d g ledger side.Hypervisor word =
     replied (hypervisorAdvance (record { outcome = replyOf n d ledger word .outcome; access = Nothing }) g) (replyOf n d ledger word .ledger)
-handBack n d g ledger side.Guest word = replied (guestAdvance (record { outcome = serviceReply n g word; access = Nothing }) d) ledger
+handBack n d g ledger side.Guest word = replied (guestAdvance (record { outcome = guestReply n g word; access = Nothing }) d) ledger
 
 abbrev pub handBackStep : World → Replied → Advanced
 handBackStep w r = advanced (r .advance) (r .ledger) (w .memory)
@@ -230,6 +237,7 @@ memoryAfter m [] = m
 memoryAfter m (Nothing ∷ es) = memoryAfter m es
 memoryAfter m (HypervisorAccess c a seen ∷ es) = memoryAfter (performed m a .memory) es
 memoryAfter m (GuestAccess c a seen ∷ es) = memoryAfter (performed m a .memory) es
+memoryAfter m (ClearAccess c a seen ∷ es) = memoryAfter (performed m a .memory) es
 memoryAfter m (MaskAccess a seen ∷ es) = memoryAfter (performed m a .memory) es
 memoryAfter m (HypervisorAnswer a count ∷ es) = memoryAfter m es
 memoryAfter m (GuestAnswer a count ∷ es) = memoryAfter m es
@@ -247,6 +255,7 @@ abbrev pub isAnswer : Event → Bool
 isAnswer Nothing = false
 isAnswer (HypervisorAccess c a seen) = false
 isAnswer (GuestAccess c a seen) = false
+isAnswer (ClearAccess c a seen) = false
 isAnswer (MaskAccess a seen) = false
 isAnswer (HypervisorAnswer a count) = true
 isAnswer (GuestAnswer a count) = true

@@ -2,7 +2,7 @@
 ghost use mathlib.Core.Path.{_≡_};
 ghost use Rattle.word.specs.Word.{linkBits};
 ghost use Rattle.machine.specs.Memory.{memory};
-ghost use Rattle.machine.specs.Exec.{hypervisorAnswer, guestAnswer, hypervisorAdvance, guestAdvance, expandDid, expandOf, started, startOf, hypervisorDid, performHypervisor, guestDid, performGuest, performMask, guestStartOf, world, advanced, performSide, replied, handBack, advanceOf, isAnswer, ran, runOf};
+ghost use Rattle.machine.specs.Exec.{hypervisorAnswer, guestAnswer, hypervisorAdvance, guestAdvance, expandDid, expandOf, started, startOf, hypervisorDid, performHypervisor, guestDid, guestAccess, performGuest, performMask, guestStartOf, world, advanced, performSide, replied, handBack, advanceOf, isAnswer, ran, runOf};
 use crate::memory;
 use crate::types::Advance;
 use crate::types::Event;
@@ -14,6 +14,7 @@ use crate::types::Side;
 use crate::types::Sides;
 use crate::types::Start;
 use crate::types::Step;
+use calls::types::Access;
 use calls::types::Domain;
 use calls::types::Guest;
 use calls::types::GuestOutcome;
@@ -137,24 +138,39 @@ pub fn perform_hypervisor(
     }
 }
 
-// The access that a guest's service waits for is made and replied to; a reply of 0 alone where none is under way.
+// A guest's access as an event: the clear_mask's while one is under way, else the service's.
+pub fn guest_access(guest: Guest, access: Access, seen: u32) -> Event
+    ensures { λ r. ⌜ r ≡ guestAccess guest access seen ⌝ }
+{
+    let clear = guest.clear;
+    let stage = clear.stage;
+    let clearing = calls::records::is_clearing(stage);
+    if clearing {
+        return Event::ClearAccess(clear, access, seen);
+    }
+    let call = guest.call;
+    Event::GuestAccess(call, access, seen)
+}
+
+// The access that a guest waits for is made and replied to; a reply of 0 alone where neither a service nor a clear_mask is under
+// way.
 pub fn perform_guest(guest: Guest, words: &mut [u32], block: &mut [u32]) -> GuestTurn
     ensures { λ r. ⌜ guestDid r (memory (now (words .exit)) (now (block .exit))) ≡ performGuest linkBits guest (memory (now (words .entry)) (now (block .entry))) ⌝ }
 {
-    let call = guest.call;
-    let due = calls::guest::service_due(guest);
+    let due = calls::clear_mask::guest_due(guest);
     let Next::Access(access) = due else {
-        let refused = calls::guest::service_reply(guest, 0);
+        let refused = calls::clear_mask::guest_reply(guest, 0);
         return GuestTurn {
             outcome: refused,
             access: Event::Nothing,
         };
     };
     let seen = memory::perform(words, block, access);
-    let outcome = calls::guest::service_reply(guest, seen);
+    let outcome = calls::clear_mask::guest_reply(guest, seen);
+    let event = guest_access(guest, access, seen);
     GuestTurn {
         outcome: outcome,
-        access: Event::GuestAccess(call, access, seen),
+        access: event,
     }
 }
 
@@ -206,6 +222,13 @@ pub fn guest_start(
             }
         }
         GuestStart::Mask(port) => mask(guest, words, block, port),
+        GuestStart::ClearMask(port) => {
+            let outcome = calls::clear_mask::clear_mask(guest, port);
+            GuestTurn {
+                outcome: outcome,
+                access: Event::Nothing,
+            }
+        }
         GuestStart::Tell(count) => {
             let outcome = calls::guest::tell(guest, count);
             GuestTurn {
@@ -290,7 +313,7 @@ pub fn hand_back(sides: Sides, ledger: &mut [u16], side: Side, word: u32) -> Adv
             )
         }
         Side::Guest => {
-            let outcome = calls::guest::service_reply(guest, word);
+            let outcome = calls::clear_mask::guest_reply(guest, word);
             guest_advance(
                 GuestTurn {
                     outcome: outcome,
@@ -310,6 +333,7 @@ pub fn is_answer(event: Event) -> bool
         Event::Nothing => false,
         Event::HypervisorAccess(_, _, _) => false,
         Event::GuestAccess(_, _, _) => false,
+        Event::ClearAccess(_, _, _) => false,
         Event::MaskAccess(_, _) => false,
         Event::HypervisorAnswer(_, _) => true,
         Event::GuestAnswer(_, _) => true,

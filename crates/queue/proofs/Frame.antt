@@ -3,18 +3,18 @@ use mathlib.Core.Path.{_≡_, refl, sym, _∙_, subst}
 use mathlib.Core.Logic.{_≢_, _⊎_, inl, inr}
 use mathlib.Core.Bool.{true, false}
 use mathlib.Core.List.{List, []}
-use Prim.Native.Nat.{ℕ, _≤_, _<_}
+use Prim.Native.Nat.{ℕ, zero, suc, _≤_, _<_}
 use native.Mathlib.Omega.{arith}
 use Rattle.queue.specs.Update.{update}
 use Rattle.queue.specs.Chain.{Member}
-use Rattle.queue.specs.Model.{Word, Call, GuestCall, View, LinkedBy, HeldBy, HeldByService, HeldByGuests, withWords}
-use Rattle.queue.specs.Model.Stage.{atR3, atR4, atR5, atR6}
+use Rattle.queue.specs.Model.{Word, Stage, Call, GuestCall, ClearCall, View, LinkedBy, HeldBy, HeldByService, HeldByGuests, withWords}
+use Rattle.queue.specs.Model.Stage.{atR3, atR4, atSetBusy, atClearBusy, atR5, atR6}
 use Rattle.queue.specs.Model.Call.{idle, asks, holds}
 use Rattle.queue.specs.Model.GuestCall.{noService, atG0, atG1, atG2, atG3, atG4}
 use Rattle.queue.specs.Stages.{put}
 use Rattle.queue.specs.Budget.{Later, Budget}
-use Rattle.queue.specs.Invariant.{linkOf, PortAt, StageAt, GuestAt, Safe, Pending, Inv}
-use Rattle.queue.proofs.Cases.{split, place, either, three}
+use Rattle.queue.specs.Invariant.{linkOf, PortAt, StageAt, GuestAt, Safe, Pending, BusyBy, Busy, Inv}
+use Rattle.queue.proofs.Cases.{clash, split, place, either, three}
 use Rattle.queue.proofs.UpdateLaws.{update-same, update-other, update-elim, update-map}
 use Rattle.queue.proofs.QueueLaws.{queue-frame}
 
@@ -53,9 +53,9 @@ unchanged v = same-words v (v .word) (λ x. refl) (λ x. refl)
 pub same-put : (v : View) (p : ℕ) (y : Word) → y .linked ≡ v .word p .linked → y .link ≡ v .word p .link → Same v (put v p y)
 same-put v p y e d = same-words v (update (v .word) p y) (update-map (λ z. z .linked) (v .word) p y e) (update-map (λ z. z .link) (v .word) p y d)
 
-pub frame : {v v′ : View} {c : Call} {g : ℕ → GuestCall} {L : ℕ → List ℕ} (c′ : Call) (g′ : ℕ → GuestCall) → Same v v′ → Inv v c g L → ((x : ℕ) → LinkedBy c x → LinkedBy c′ x)
-    → Pending v′ c′ g′ → PortAt v′ L c′ → StageAt v′ L c′ → ((j : ℕ) → GuestAt v′ j (g′ j)) → Inv v′ c′ g′ L
-frame {v} {v′} {c} {g} {L} c′ g′ s i held pending port stage guests = record {
+pub frame : {v v′ : View} {c : Call} {g : ℕ → GuestCall} {m : ℕ → ClearCall} {L : ℕ → List ℕ} (c′ : Call) (g′ : ℕ → GuestCall) → Same v v′
+    → Inv v c g m L → ((x : ℕ) → LinkedBy c x → LinkedBy c′ x) → Pending v′ c′ g′ → Busy v′ c′ → PortAt v′ L c′ → StageAt v′ L c′ → ((j : ℕ) → GuestAt v′ j (g′ j)) → Inv v′ c′ g′ m L
+frame {v} {v′} c′ g′ s i held pending busy port stage guests = record {
   queue = λ q. rw (s .tail q, s .guestHead q, s .head q, s .local q, s .ready q) (queue-frame (linkOf v′) (λ x m. s .link x) (i .queue q));
   once = i .once;
   member = λ q x m. rw (s .size, s .linked x, s .lastQueue x) (i .member q x m);
@@ -63,13 +63,15 @@ frame {v} {v′} {c} {g} {L} c′ g′ s i held pending port stage guests = reco
   ends = λ x h e. s .link x ∙ i .ends x (rw (s .size) at h) (sym (s .linked x) ∙ e);
   tails = λ q n. rw (s .tail q, s .size, s .lastQueue (v .tail q), s .everLinked (v .tail q)) (i .tails q (λ e. n (s .tail q ∙ e)));
   pending = pending;
+  busy = busy;
   port = port;
   stage = stage;
   guests = guests;
+  clears = λ j. rw (s .size) (i .clears j);
 }
 
 -- ---- the pending ports
-module _ {v : View} {c : Call} {g : ℕ → GuestCall} {L : ℕ → List ℕ} (i : Inv v c g L) where
+module _ {v : View} {c : Call} {g : ℕ → GuestCall} {m : ℕ → ClearCall} {L : ℕ → List ℕ} (i : Inv v c g m L) where
   -- word p becomes y
   pub pending-put : (c′ : Call) (g′ : ℕ → GuestCall) (p : ℕ) (y : Word) → ((x : ℕ) → x ≢ p → Safe v c g x → Safe v c′ g′ x)
       → (y .pending ≡ true → y .masked ≡ false → (y .linked ≡ true) ⊎ (HeldBy c′ p ⊎ HeldByGuests g′ p)) → Pending (put v p y) c′ g′
@@ -88,22 +90,57 @@ module _ {v : View} {c : Call} {g : ℕ → GuestCall} {L : ℕ → List ℕ} (i
 pub held-by : (g : ℕ → GuestCall) (j : ℕ) (z : GuestCall) (x : ℕ) → HeldByService z x → HeldByGuests (update g j z) x
 held-by g j z x h = (j, rw (update-same g j z) h)
 
+-- ---- the BUSY words
+-- word p becomes y, which is BUSY where it was
+pub busy-put : {v : View} {c : Call} {g : ℕ → GuestCall} {m : ℕ → ClearCall} {L : ℕ → List ℕ} → Inv v c g m L → (c′ : Call) (p : ℕ) (y : Word) → y .busy ≡ v .word p .busy
+    → ((x : ℕ) → BusyBy c (v .tail) x → BusyBy c′ (v .tail) x) → Busy (put v p y) c′
+busy-put {v} i c′ p y e turn x lt d = turn x (i .busy x lt (sym (update-map (λ z. z .busy) (v .word) p y e x) ∙ d))
+
+busy-tail : (tail : ℕ → ℕ) (q p : ℕ) (s : Stage) (x : ℕ) → BusyBy (holds q p s) tail x → x ≡ tail q
+busy-tail tail q p atR3 x h = absurd h
+busy-tail tail q p (atR4 zero w) x h = absurd h
+busy-tail tail q p (atR4 (suc k) w) x h = h
+busy-tail tail q p atSetBusy x h = absurd h
+busy-tail tail q p atClearBusy x h = h
+busy-tail tail q p atR5 x h = absurd h
+busy-tail tail q p atR6 x h = absurd h
+
+-- once the tail's word is not BUSY, no word is
+pub busy-cleared : {v : View} {g : ℕ → GuestCall} {m : ℕ → ClearCall} {L : ℕ → List ℕ} {q p : ℕ} {s : Stage} → Inv v (holds q p s) g m L → (y : Word) → y .busy ≡ false
+    → (x : ℕ) → x < v .size → update (v .word) (v .tail q) y x .busy ≡ true → ⊥
+busy-cleared {v} {q = q} {p = p} {s = s} i y e x lt = update-elim (λ z. z .busy ≡ true → ⊥) (v .word) (v .tail q) y x
+    (λ d b. clash b e) (λ n b. n (busy-tail (v .tail) q p s x (i .busy x lt b)))
+
 -- ---- the hypervisor's call, where the guest writes words and takes from lists
--- what is linked after a write was linked before it, and is as the guest may leave it
-abbrev pub Fades : Word → Word → Type 0
-Fades y x = y .linked ≡ true → (x .linked ≡ true) × Later y x
+-- BUSY is kept; and where it is set, what is linked after a write was linked before it, and is as the guest may leave it
+pub record Fades (y x : Word) : Type 0 where
+  pub busy : y .busy ≡ x .busy
+  pub later : x .busy ≡ true → y .linked ≡ true → (x .linked ≡ true) × Later y x
 
 pub later-refl : (x : Word) → Later x x
-later-refl x = record { reserved = refl; link = refl; pending = λ e. e; masked = λ e. e }
+later-refl x = record { busy = refl; reserved = refl; link = refl; pending = λ e. e; masked = λ e. e }
 
 later-trans : {z y x : Word} → Later z y → Later y x → Later z x
-later-trans a b = record { reserved = a .reserved ∙ b .reserved; link = a .link ∙ b .link; pending = λ e. b .pending (a .pending e); masked = λ e. a .masked (b .masked e) }
+later-trans a b = record {
+  busy = a .busy ∙ b .busy;
+  reserved = a .reserved ∙ b .reserved;
+  link = a .link ∙ b .link;
+  pending = λ e. b .pending (a .pending e);
+  masked = λ e. a .masked (b .masked e);
+}
 
 budget-fades : {y x s : Word} {k : ℕ} → Fades y x → Budget x k s → Budget y k s
-budget-fades f h = record { linked = h .linked; few = h .few; later = λ e. later-trans (f e .1) (h .later (f e .0)) }
+budget-fades f h = record {
+  linked = h .linked;
+  few = h .few;
+  busy = h .busy;
+  kept = λ b. f .busy ∙ h .kept b;
+  later = λ b e. let d = f .later (h .kept b) e in later-trans (d .1) (h .later b (d .0));
+}
 
 pub fades-at : (word : ℕ → Word) (p : ℕ) (y : Word) → Fades y (word p) → (x : ℕ) → Fades (update word p y x) (word x)
-fades-at word p y f x = update-elim (λ z. Fades z (word x)) word p y x (λ e. subst (λ k. Fades y (word k)) (sym e) f) (λ n d. (d, later-refl (word x)))
+fades-at word p y f x = update-elim (λ z. Fades z (word x)) word p y x
+    (λ e. subst (λ k. Fades y (word k)) (sym e) f) (λ n. record { busy = refl; later = λ b d. (d, later-refl (word x)) })
 
 module _ (v : View) (f : ℕ → Word) (L M : ℕ → List ℕ) (fades : (x : ℕ) → Fades (f x) (v .word x)) (vacant : (q : ℕ) → L q ≡ [] → M q ≡ []) where
   pub stage-frame : (c : Call) → StageAt v L c → StageAt (withWords f v) M c
@@ -111,6 +148,8 @@ module _ (v : View) (f : ℕ → Word) (L M : ℕ → List ℕ) (fades : (x : �
   stage-frame (asks k p) h = h
   stage-frame (holds q p atR3) h = h
   stage-frame (holds q p (atR4 tries x)) h = record { some = h .some; other = h .other; budget = budget-fades (fades (v .tail q)) (h .budget) }
+  stage-frame (holds q p atSetBusy) h = h
+  stage-frame (holds q p atClearBusy) h = record { some = h .some; other = h .other; busy = fades (v .tail q) .busy ∙ h .busy; vacant = vacant q (h .vacant) }
   stage-frame (holds q p atR5) h = vacant q h
   stage-frame (holds q p atR6) h = record { vacant = vacant q (h .vacant); head = h .head; tail = h .tail }
 

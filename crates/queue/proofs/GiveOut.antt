@@ -8,7 +8,7 @@ use native.Mathlib.Nat.{le-refl}
 use borrow.Author.Tests.{eq-eqb, ne-eqb}
 use Rattle.queue.specs.Update.{update}
 use Rattle.queue.specs.Chain.{Member, Once, dropFirst, giveOut}
-use Rattle.queue.specs.Model.{Word, Call, GuestCall, View, LinkedBy, withLinked, withLink}
+use Rattle.queue.specs.Model.{Word, Call, GuestCall, ClearCall, View, LinkedBy, withLinked, withLink}
 use Rattle.queue.specs.Model.GuestCall.{atG2, atG3}
 use Rattle.queue.specs.Stages.{localAtG2, G2}
 use Rattle.queue.specs.Invariant.{QueueAt, Queue, linkOf, Real, AtG2, Inv, ServiceKeeps}
@@ -16,14 +16,14 @@ use Rattle.queue.proofs.Cases.{clash, place, either}
 use Rattle.queue.proofs.UpdateLaws.{update-same, update-other, update-elim}
 use Rattle.queue.proofs.ChainLaws.{member-is}
 use Rattle.queue.proofs.QueueLaws.{queue-frame, drop-queue}
-use Rattle.queue.proofs.Frame.{Unseen, pending-put, safe-service, held-by, fades-at, stage-frame, port-frame, guest-frame, guests-update}
+use Rattle.queue.proofs.Frame.{Unseen, pending-put, safe-service, held-by, busy-put, fades-at, stage-frame, port-frame, guest-frame, guests-update}
 use Rattle.queue.proofs.Service.{first-real}
 
 drop-member : (x : ℕ) (l : List ℕ) → Member x (dropFirst l) → Member x l
 drop-member x [] m = m
 drop-member x (y ∷ l) m = inr m
 
-module _ {v : View} {c : Call} {g : ℕ → GuestCall} {L : ℕ → List ℕ} (j q p : ℕ) (at : g j ≡ atG2 q p) (i : Inv v c g L) where
+module _ {v : View} {c : Call} {g : ℕ → GuestCall} {m : ℕ → ClearCall} {L : ℕ → List ℕ} (j q p : ℕ) (at : g j ≡ atG2 q p) (i : Inv v c g m L) where
   mine : AtG2 (v .owner q) j (v .guestHead q) (v .head q) (v .local q) p
   mine = rw at at (i .guests j)
 
@@ -79,7 +79,7 @@ module _ {v : View} {c : Call} {g : ℕ → GuestCall} {L : ℕ → List ℕ} (j
   hand : (x : ℕ) → ((r : ℕ) → ¬ Member x (L r)) → words x ≡ v .word x
   hand x away = update-other (v .word) p word x (λ d. away q (member-is (L q) (sym d) stands))
 
-  pub G2-keeps : ServiceKeeps j (G2 q p v L) c g
+  pub G2-keeps : ServiceKeeps j (G2 q p v L) c g m
   G2-keeps = record {
     queue = λ r. place (λ r. QueueAt (G2 q p v L .view) r (giveOut L q r)) q r
         (rw (update-same L q (dropFirst (L q)), update-same (v .guestHead) q (v .word p .link), update-same (v .local) q (localAtG2 v q p)) (dropped .1))
@@ -92,9 +92,11 @@ module _ {v : View} {c : Call} {g : ℕ → GuestCall} {L : ℕ → List ℕ} (j
     ends = λ x lt. update-elim (λ z. z .linked ≡ false → z .link ≡ 0) (v .word) p word x (λ d e. refl) (λ n. i .ends x lt);
     tails = i .tails;
     pending = pending-put i c (update g j (atG3 p)) p word (λ x n. safe-service i j (atG3 p) x (λ h. absurd (rw at at h))) (λ a b. inr (inr (held-by g j (atG3 p) p refl)));
+    busy = busy-put i c p word refl (λ x h. h);
     port = port-frame v words L (giveOut L q) fewer (λ x a. ap (λ z. z .linked) (hand x a)) (λ x a. ap (λ z. z .link) (hand x a)) c (i .port);
-    stage = stage-frame v words L (giveOut L q) (fades-at (v .word) p word (λ e. clash e refl)) vacant c (i .stage);
+    stage = stage-frame v words L (giveOut L q) (fades-at (v .word) p word (record { busy = refl; later = λ b e. clash e refl })) vacant c (i .stage);
     guests = guests-update (G2 q p v L .view) g j (atG3 p) G2-real (λ k n. guest-frame v (G2 q p v L .view) k (le-refl (v .size)) (unseen k n) (g k) (i .guests k));
+    clears = i .clears;
   }
     where
       -- another VCPU's service is on another queue

@@ -2,17 +2,22 @@
 -- Assumes nothing.
 use mathlib.Core.Path.{_≡_}
 use mathlib.Core.Bool.{Bool, true, false, not}
-use Prim.Native.Nat.{ℕ, _+_, _<_}
+use Prim.Native.Nat.{ℕ, zero, suc, _+_, _<_}
 use Rattle.queue.specs.Model.{Word, Call}
 use Rattle.queue.specs.Model.Kind.{atR1, atR2, atU1, atBind, atClose}
-use Rattle.queue.specs.Model.Stage.{atR3, atR4, atR5, atR6}
+use Rattle.queue.specs.Model.Stage.{atR3, atR4, atSetBusy, atClearBusy, atR5, atR6}
 use Rattle.queue.specs.Model.Call.{idle, asks, holds}
 
--- no more cas than these are not taken
+-- no more cas than these are not taken: the first one, and three with BUSY set
 abbrev pub mostTries : ℕ
-mostTries = 3
+mostTries = 4
 
--- how often the guest can still change a linked word and leave it linked
+-- after so many cas not taken: every cas but the first is made with BUSY set
+abbrev pub busyAfter : ℕ → Bool
+busyAfter zero = false
+busyAfter (suc k) = true
+
+-- how often the guest can still change a linked word that is BUSY and leave it linked
 abbrev pub one : Bool → ℕ
 one true = 1
 one false = 0
@@ -20,28 +25,35 @@ one false = 0
 abbrev pub rank : Word → ℕ
 rank x = one (x .pending) + one (not (x .masked))
 
--- y as the guest may have left x: PENDING only cleared, MASKED only set
+-- y as the guest may have left x, which is BUSY: PENDING only cleared, MASKED only set
 pub record Later (y x : Word) : Type 0 where
+  pub busy : y .busy ≡ x .busy
   pub reserved : y .reserved ≡ x .reserved
   pub link : y .link ≡ x .link
   pub pending : y .pending ≡ true → x .pending ≡ true
   pub masked : x .masked ≡ true → y .masked ≡ true
 
--- at R4: the tail's word is `now`, and x was seen last, after so many tries
+-- at R4, after so many cas not taken: the tail's word is `now`, and this cas compares it with x. While BUSY is not set
+-- nothing bounds how the guest changes that word, and one cas is made
 pub record Budget (now : Word) (tries : ℕ) (x : Word) : Type 0 where
   pub linked : x .linked ≡ true
   pub few : tries + rank x < mostTries
-  pub later : now .linked ≡ true → Later now x
+  pub busy : x .busy ≡ busyAfter tries
+  pub kept : busyAfter tries ≡ true → now .busy ≡ true
+  pub later : busyAfter tries ≡ true → now .linked ≡ true → Later now x
 
 -- the accesses made, at most, when a call stands here; idle: when it is answered
 abbrev pub madeBy : Call → ℕ
-madeBy idle = 5 + mostTries
+madeBy idle = 7 + mostTries
 madeBy (asks atR1 p) = 0
 madeBy (asks atR2 p) = 1
 madeBy (asks atU1 p) = 0
 madeBy (asks atBind p) = 0
 madeBy (asks atClose p) = 0
 madeBy (holds q p atR3) = 2
-madeBy (holds q p (atR4 tries x)) = 3 + tries
-madeBy (holds q p atR5) = 3 + mostTries
-madeBy (holds q p atR6) = 4 + mostTries
+madeBy (holds q p (atR4 zero x)) = 3
+madeBy (holds q p atSetBusy) = 4
+madeBy (holds q p (atR4 (suc k) x)) = 4 + suc k
+madeBy (holds q p atClearBusy) = 4 + mostTries
+madeBy (holds q p atR5) = 5 + mostTries
+madeBy (holds q p atR6) = 6 + mostTries

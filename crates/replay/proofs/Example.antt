@@ -15,7 +15,7 @@ use Rattle.replay.specs.Example.{Example}
 pub example : Example
 unfolding codeOf runs digit digits places decimal hex8 sideOf placeOf row accessBytes callBytes bytesOf LegalCall seenIn accessLine answerLine lineOf same field after valueFrom value guessFrom guess readLine freshWorld stepOfCall adds ran dueAfter nextLine opens played playedAll linesOf ends joined linesOfEvents recorded Recordable
 example = record {
-  may = (((lit≤ tt, lit≤ tt, lit≤ tt), refl), ((lit≤ tt, refl), ((lit≤ tt, refl), (refl, ((lit≤ tt, refl), (refl, (refl, (refl, (refl, ((tt, refl), (refl, (refl, (refl, (refl, (refl, ((lit≤ tt, refl), tt))))))))))))))));
+  may = (((lit≤ tt, lit≤ tt, lit≤ tt), refl), ((lit≤ tt, refl), ((lit≤ tt, refl), (refl, ((lit≤ tt, refl), (refl, (refl, (refl, (refl, ((lit≤ tt, refl), ((tt, refl), (refl, ((lit≤ tt, refl), (refl, (refl, (refl, (refl, (refl, (refl, ((lit≤ tt, refl), tt))))))))))))))))))));
   written = refl;
   agrees = refl;
   early = refl;

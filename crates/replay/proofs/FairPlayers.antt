@@ -14,7 +14,7 @@ use Rattle.calls.specs.Answers.{codeOf}
 use Rattle.calls.proofs.Cases.{choose}
 use Rattle.machine.specs.declared.types.Side.{Side}
 use Rattle.machine.specs.declared.types.Event.{Event}
-use Rattle.machine.specs.declared.types.Event.the-variants.{Nothing, HypervisorAccess, GuestAccess, MaskAccess, HypervisorAnswer, GuestAnswer}
+use Rattle.machine.specs.declared.types.Event.the-variants.{Nothing, HypervisorAccess, GuestAccess, ClearAccess, MaskAccess, HypervisorAnswer, GuestAnswer}
 use Rattle.machine.specs.declared.types.Step.the-variants as step
 use Rattle.machine.specs.Exec.{World, exec}
 use Rattle.log.specs.declared.line.Line.{Line}
@@ -66,6 +66,7 @@ unfolding lineOf accessLine
 event-no-call Nothing = tt
 event-no-call (HypervisorAccess c a seen) = refl
 event-no-call (GuestAccess c a seen) = refl
+event-no-call (ClearAccess c a seen) = refl
 event-no-call (MaskAccess a seen) = refl
 event-no-call (HypervisorAnswer a count) = answer-no-call _ a
 event-no-call (GuestAnswer a count) = answer-no-call _ a

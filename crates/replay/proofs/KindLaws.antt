@@ -12,7 +12,7 @@ use Rattle.calls.specs.declared.types.Access.the-variants.{Read, Store, Or, And
 use Rattle.machine.specs.declared.types.Side.{Side}
 use Rattle.machine.specs.declared.types.Side.the-variants.{Guest}
 use Rattle.log.specs.declared.line.LoggedCall.{LoggedCall}
-use Rattle.log.specs.declared.line.LoggedCall.the-variants.{InitControl, ExpandArray, Bind, Close, SetPriority, Raise, Unmask, Service, Mask}
+use Rattle.log.specs.declared.line.LoggedCall.the-variants.{InitControl, ExpandArray, Bind, Close, SetPriority, Raise, Unmask, Service, Mask, ClearMask}
 use Rattle.log.specs.declared.line.Line.{Line}
 use Rattle.log.specs.declared.line.Line.the-variants as line
 use Rattle.log.specs.declared.read.Kind.the-variants as kind
@@ -61,6 +61,7 @@ call-kind (Raise p) = call-kind-of _ _ _ _ _ refl (decimal-plain (p .0)) refl re
 call-kind (Unmask p) = call-kind-of _ _ _ _ _ refl (decimal-plain (p .0)) refl refl
 call-kind Service = call-kind-of _ _ _ _ _ refl refl refl refl
 call-kind (Mask p) = call-kind-of _ _ _ _ _ refl (decimal-plain (p .0)) refl refl
+call-kind (ClearMask p) = call-kind-of _ _ _ _ _ refl (decimal-plain (p .0)) refl refl
 
 pub kind-kept : (l : Line) → kindOf (guess (bytesOf l)) ≡ kindOf l
 unfolding bytesOf guess guessFrom same field plain

@@ -14,7 +14,7 @@ use Rattle.calls.specs.Answers.{codeOf}
 use Rattle.machine.specs.declared.types.Side.{Side}
 use Rattle.machine.specs.declared.types.Side.the-variants.{Hypervisor, Guest}
 use Rattle.machine.specs.declared.types.Event.{Event}
-use Rattle.machine.specs.declared.types.Event.the-variants.{Nothing, HypervisorAccess, GuestAccess, MaskAccess, HypervisorAnswer, GuestAnswer}
+use Rattle.machine.specs.declared.types.Event.the-variants.{Nothing, HypervisorAccess, GuestAccess, ClearAccess, MaskAccess, HypervisorAnswer, GuestAnswer}
 use Rattle.log.specs.declared.line.Line.the-variants as line
 use Rattle.log.specs.declared.event.Logged.{Logged}
 use Rattle.log.specs.declared.event.Logged.the-variants as logged
@@ -57,6 +57,7 @@ unfolding lineOf
 event-legal Nothing h = tt
 event-legal (HypervisorAccess c a seen) h = access-legal Hypervisor a seen (h .0) (h .1)
 event-legal (GuestAccess c a seen) h = access-legal Guest a seen (h .0) (h .1)
+event-legal (ClearAccess c a seen) h = access-legal Guest a seen (h .0) (h .1)
 event-legal (MaskAccess a seen) h = access-legal Guest a seen (h .0) (h .1)
 event-legal (HypervisorAnswer a count) h = answer-legal Hypervisor a h
 event-legal (GuestAnswer a count) h = answer-legal Guest a h

@@ -11,7 +11,7 @@ use Rattle.calls.specs.declared.types.Access.{Access}
 use Rattle.calls.specs.declared.types.Access.the-variants.{Read, Store, Or, And, Swap, Cas}
 use Rattle.machine.specs.declared.types.Side.{Side}
 use Rattle.log.specs.declared.line.LoggedCall.{LoggedCall}
-use Rattle.log.specs.declared.line.LoggedCall.the-variants.{InitControl, ExpandArray, Bind, Close, SetPriority, Raise, Unmask, Service, Mask}
+use Rattle.log.specs.declared.line.LoggedCall.the-variants.{InitControl, ExpandArray, Bind, Close, SetPriority, Raise, Unmask, Service, Mask, ClearMask}
 use Rattle.log.specs.declared.line.Line.{Line}
 use Rattle.log.specs.declared.line.Line.the-variants as line
 use Rattle.log.specs.Line.{ascii, newline, row, accessBytes, callBytes, bytesOf}
@@ -66,6 +66,7 @@ call-line (Raise p) = row-line _ _ _ _ _ _ refl refl (decimal-plain (p .0)) refl
 call-line (Unmask p) = row-line _ _ _ _ _ _ refl refl (decimal-plain (p .0)) refl refl
 call-line Service = row-line _ _ _ _ _ _ refl refl refl refl refl
 call-line (Mask p) = row-line _ _ _ _ _ _ refl refl (decimal-plain (p .0)) refl refl
+call-line (ClearMask p) = row-line _ _ _ _ _ _ refl refl (decimal-plain (p .0)) refl refl
 
 pub line-of : (l : Line) → IsLine (bytesOf l)
 unfolding bytesOf plain

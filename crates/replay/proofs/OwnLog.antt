@@ -4,22 +4,22 @@ use Prim.Native.Nat.{ℕ, suc, _+_, _≤_, _<_}
 use native.Mathlib.Omega.{arith}
 use native.Mathlib.Nat.{add-zero, zero-add}
 use mathlib.Core.Path.{_≡_, refl, sym, ap, _∙_, subst}
-use mathlib.Core.Bool.{Bool, true, false, cond, _&&_}
+use mathlib.Core.Bool.{Bool, true, false, cond, _&&_, _||_}
 use mathlib.Core.List.{List, [], _∷_, _++_, map}
 use lib.ListN.{length, length-append}
 use borrow.Author.Tests.{not-true}
 use Rattle.word.specs.Word.{Width}
 use Rattle.calls.specs.declared.types.Access.{Access}
-use Rattle.calls.specs.Records.{isFree}
+use Rattle.calls.specs.Records.{isFree, isClearing}
 use Rattle.calls.specs.Hypervisor.{nextOf}
-use Rattle.calls.specs.Guest.{guestNext}
+use Rattle.calls.specs.Guest.{isServing, guestNext}
+use Rattle.calls.specs.ClearMask.{guestDueOf}
 use Rattle.machine.specs.declared.types.Side.{Side}
 use Rattle.machine.specs.declared.types.Side.the-variants as side
 use Rattle.machine.specs.declared.types.Step.the-variants as step
 use Rattle.machine.specs.declared.types.Event.{Event}
-use Rattle.machine.specs.Exec.{World, exec, execAll, performSide, performHypervisor, performGuest, advanceOf}
+use Rattle.machine.specs.Exec.{World, exec, execAll, performSide, performHypervisor, guestAccess, performGuest, advanceOf}
 use Rattle.log.specs.declared.line.LoggedCall.{LoggedCall}
-use Rattle.log.specs.declared.line.LoggedCall.the-variants.{InitControl, ExpandArray, Bind, Close, SetPriority, Raise, Unmask, Service, Mask}
 use Rattle.log.specs.declared.line.Line.{Line}
 use Rattle.log.specs.declared.line.Line.the-variants as line
 use Rattle.log.specs.declared.event.Logged.{Logged}
@@ -33,6 +33,7 @@ use Rattle.claims.proofs.Numbers.{numbers-stay-small, runs-stay-small, fresh-is
 use Rattle.replay.specs.Replay.{freshWorld, stepOfCall, adds, isFull, told, ran, textsOf, dueAfter, report, Player, playing, isBusy, opens, played, playedAll, ends}
 use Rattle.replay.specs.Claims.{mostLines, Act, calls, accesses, tellAfter, stepsOf, afterAct, lineThen, linesOfEvents, linesOfAct, recorded, MayRecord, Recordable, OwnLogAgrees}
 use Rattle.replay.proofs.LegalEvents.{LegalLogged, event-legal}
+use Rattle.replay.proofs.SoundPlayers.{call-small}
 use Rattle.replay.proofs.PlayLaws.{next-line, counted, over, over-append, replay-over}
 
 -- ---- the lines of a step's events: they are due, and they are legal
@@ -83,10 +84,16 @@ record FirstAccess (s : Side) (es : List Event) : Type 0 where
   rest : List Line
   lines : linesOfEvents es ≡ line.Access s access seen ∷ rest
 
+guest-first : (n : ℕ) (w : World) (clearing : Bool) → isClearing (w .guest .clear .stage) ≡ clearing → clearing || isServing (w .guest .call .stage) ≡ true →
+    FirstAccess side.Guest (exec n w (step.Perform side.Guest) .events)
+unfolding advanceOf performSide guestAccess performGuest guestNext guestDueOf linesOfEvents lineOf accessLine
+guest-first n w true e h = rw (e, e) (record { access = _; seen = _; rest = _; lines = refl })
+guest-first n w false e h = rw (e, h, e) (record { access = _; seen = _; rest = _; lines = refl })
+
 first-access : (n : ℕ) (w : World) (s : Side) → isBusy w s ≡ true → FirstAccess s (exec n w (step.Perform s) .events)
-unfolding advanceOf performSide performHypervisor performGuest nextOf guestNext linesOfEvents lineOf accessLine
+unfolding advanceOf performSide performHypervisor nextOf linesOfEvents lineOf accessLine
 first-access n w side.Hypervisor h = rw (not-true (isFree (w .domain .call .owner)) h) (record { access = _; seen = _; rest = _; lines = refl })
-first-access n w side.Guest h = rw h (record { access = _; seen = _; rest = _; lines = refl })
+first-access n w side.Guest h = guest-first n w (isClearing (w .guest .clear .stage)) refl h
 
 -- ---- what is played of an act
 
@@ -136,24 +143,12 @@ call-agrees n w c h f g k i =
     ∙ all-come n (afterAct n w (calls c)) ls g (k + 1) (omega arith)
     ∙ ap (playing (afterAct n w (calls c)) []) (counted k (length ls))
 
-call-step-small : (c : LoggedCall) → SmallStep (stepOfCall c)
-unfolding stepOfCall
-call-step-small (InitControl v f o) = tt
-call-step-small (ExpandArray f) = tt
-call-step-small (Bind p) = tt
-call-step-small (Close p) = tt
-call-step-small (SetPriority p r) = tt
-call-step-small (Raise p) = tt
-call-step-small (Unmask p) = tt
-call-step-small Service = tt
-call-step-small (Mask p) = tt
-
 tell-small : (w : World) (b : Bool) → All SmallStep (cond b (tellAfter w) [])
 tell-small w true = (tt, tt)
 tell-small w false = tt
 
 steps-small : (n : ℕ) (w : World) (a : Act) → All SmallStep (stepsOf n w a)
-steps-small n w (calls c) = (call-step-small c, tell-small (exec n w (stepOfCall c) .world) (adds n (w .domain) c))
+steps-small n w (calls c) = (call-small c, tell-small (exec n w (stepOfCall c) .world) (adds n (w .domain) c))
 steps-small n w (accesses s) = (tt, tt)
 
 module _ (n : ℕ) (wide : Width n) where
@@ -162,7 +157,7 @@ module _ (n : ℕ) (wide : Width n) where
   unfolding execAll
   act-agrees w small (calls c) may k i =
       call-agrees n w c (may .0) (may .1)
-      (lines-legal _ (numbers-stay-small n wide w (stepOfCall c) small (call-step-small c) .events)) k i
+      (lines-legal _ (numbers-stay-small n wide w (stepOfCall c) small (call-small c) .events)) k i
   act-agrees w small (accesses s) may k i =
       let f = first-access n w s may in
       subst (Agrees n w (exec n w (step.Perform s) .world)) (sym (f .lines)) (access-agrees n w s (f .access) (f .seen) (f .rest) may (f .lines))

@@ -11,7 +11,7 @@ use Rattle.calls.specs.declared.types.Place.the-variants.{Word, Ready, Head}
 use Rattle.calls.specs.declared.types.Access.{Access}
 use Rattle.calls.specs.declared.types.Access.the-variants.{Read, Store, Or, And, Swap, Cas}
 use Rattle.calls.specs.declared.types.Answer.{Answer}
-use Rattle.calls.specs.declared.types.Answer.the-variants.{Done, LinkBits, UpcallWanted, LinkAbandoned, BadPort, NotBound, AlreadyBound, OutsideArray, StillLinked, BadPriority, AlreadyGiven, NotGiven, BadFrame, BadOffset, TooManyPages, NoEntry, CallUnderWay, NoCall, BadVcpu, BadIndex, HandedOver, NothingReady, Taken}
+use Rattle.calls.specs.declared.types.Answer.the-variants.{Done, LinkBits, UpcallWanted, LinkAbandoned, BadPort, NotBound, AlreadyBound, OutsideArray, StillLinked, BadPriority, AlreadyGiven, NotGiven, BadFrame, BadOffset, TooManyPages, NoEntry, CallUnderWay, NoCall, BadVcpu, BadIndex, HandedOver, NothingReady, Taken, CallUnmask}
 use Rattle.calls.specs.declared.types.Next.{Next}
 use Rattle.calls.specs.declared.types.Next.the-variants as next
 use Rattle.calls.specs.Answers.{codeOf}
@@ -57,6 +57,7 @@ small-number BadIndex = refl
 small-number (HandedOver port) = refl
 small-number NothingReady = refl
 small-number (Taken port) = refl
+small-number CallUnmask = refl
 
 pub answer-number : (a : Answer) (count : ℕ) → ltb (encodedAnswer a count .code) 0x100 ≡ true
 unfolding encodedAnswer

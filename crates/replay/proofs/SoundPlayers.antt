@@ -16,7 +16,7 @@ use Rattle.machine.specs.declared.types.GuestStart.the-variants as guestStart
 use Rattle.machine.specs.declared.types.Event.{Event}
 use Rattle.machine.specs.Exec.{World, exec}
 use Rattle.log.specs.declared.line.LoggedCall.{LoggedCall}
-use Rattle.log.specs.declared.line.LoggedCall.the-variants.{InitControl, ExpandArray, Bind, Close, SetPriority, Raise, Unmask, Service, Mask}
+use Rattle.log.specs.declared.line.LoggedCall.the-variants.{InitControl, ExpandArray, Bind, Close, SetPriority, Raise, Unmask, Service, Mask, ClearMask}
 use Rattle.log.specs.declared.line.Line.{Line}
 use Rattle.log.specs.declared.line.Line.the-variants as line
 use Rattle.log.specs.declared.event.Logged.{Logged}
@@ -55,7 +55,7 @@ events-legal (e ∷ es) h = texts-legal (lineOf e) (event-legal e (h .0)) (dueAf
 pub due-legal : {n : ℕ} → Width n → (w : World) → SmallWorld w → (s : Step) → SmallStep s → All LegalText (dueAfter (exec n w s .events))
 due-legal {n} wide w i s h = events-legal (exec n w s .events) (numbers-stay-small n wide w s i h .events)
 
-call-small : (c : LoggedCall) → SmallStep (stepOfCall c)
+pub call-small : (c : LoggedCall) → SmallStep (stepOfCall c)
 unfolding stepOfCall
 call-small (InitControl vcpu frame offset) = tt
 call-small (ExpandArray frame) = tt
@@ -66,6 +66,7 @@ call-small (Raise port) = tt
 call-small (Unmask port) = tt
 call-small Service = tt
 call-small (Mask port) = tt
+call-small (ClearMask port) = tt
 
 -- ---- the start
 

@@ -1,12 +1,12 @@
--- By computation: a log recorded from a bind, a raise, a service and a mask on one lent page, as text; and what a replay says of it, of
--- the same log with one line changed, and of one that goes past the page.
+-- By computation: a log recorded from a bind, a raise, a service with a clear_mask in it and masks on one lent page, as text; and what a
+-- replay says of it, of the same log with one line changed, and of one that goes past the page.
 -- Assumes nothing.
 use Prim.Native.String.{String}
 use mathlib.Core.Path.{_≡_}
 use mathlib.Core.List.{List, [], _∷_, _++_, map}
 use Rattle.word.specs.Word.{linkBits, portAt}
 use Rattle.machine.specs.declared.types.Side.the-variants as side
-use Rattle.log.specs.declared.line.LoggedCall.the-variants.{InitControl, ExpandArray, Bind, Raise, Service, Mask}
+use Rattle.log.specs.declared.line.LoggedCall.the-variants.{InitControl, ExpandArray, Bind, Raise, Service, Mask, ClearMask}
 use Rattle.log.specs.Line.{ascii, bytesOf}
 use Rattle.replay.specs.declared.player.Report.{Report}
 use Rattle.replay.specs.Replay.{freshWorld, report, replay}
@@ -29,7 +29,11 @@ acts =
     ∷ x
     ∷ x
     ∷ x
+    ∷ calls (Mask (portAt 6))
     ∷ calls Service
+    ∷ g
+    ∷ calls (ClearMask (portAt 6))
+    ∷ g
     ∷ g
     ∷ g
     ∷ g
@@ -38,7 +42,7 @@ acts =
     ∷ calls (Mask (portAt 5))
     ∷ []
 
--- its log: every line up to the mask's, and the mask's
+-- its log: every line up to the last mask's, and that mask's
 abbrev pub first : List String
 first =
     "accesses\t1\n"
@@ -55,8 +59,15 @@ first =
     ∷ "X\tstore\th7\t-\t00000005\t-\n"
     ∷ "X\tor\tready\t-\t00000080\t00000000\n"
     ∷ "X\tanswer\t1\t-\t-\t-\n"
+    ∷ "G\tcall\tmask\t6\t-\t-\n"
+    ∷ "G\tor\tw6\t-\t40000000\t00000000\n"
+    ∷ "G\tanswer\t0\t-\t-\t-\n"
     ∷ "G\tcall\tservice\t-\t-\t-\n"
     ∷ "G\tswap\tready\t-\t00000000\t00000080\n"
+    ∷ "G\tcall\tclear_mask\t6\t-\t-\n"
+    ∷ "G\tread\tw6\t-\t-\t40000000\n"
+    ∷ "G\tcas\tw6\t40000000\t00000000\t40000000\n"
+    ∷ "G\tanswer\t0\t-\t-\t-\n"
     ∷ "G\tread\th7\t-\t-\t00000005\n"
     ∷ "G\tand\tw5\t-\tDFFE0000\tA0000000\n"
     ∷ "G\tread\tw5\t-\t-\t80000000\n"
@@ -75,8 +86,8 @@ said texts = replay linkBits 10 1024 (joined (map ascii texts))
 pub record Example : Type 0 where
   pub may : Recordable linkBits (freshWorld 10 1024) acts
   pub written : map bytesOf (wholeLog linkBits 10 1024 acts) ≡ map ascii (first ++ last)
-  pub agrees : said (first ++ last) ≡ report 0 24
-  pub early : said first ≡ report 1 23
-  pub differs : said (first ++ "G\tor\tw5\t-\t40000000\t00000001\n" ∷ []) ≡ report 1 23
-  pub unread : said (first ++ "G\tor\tw05\t-\t40000000\t00000000\n" ∷ []) ≡ report 22 23
-  pub unlent : said (first ++ last ++ "X\tcall\texpand_array\t-\t3\t-\n" ∷ []) ≡ report 33 25
+  pub agrees : said (first ++ last) ≡ report 0 31
+  pub early : said first ≡ report 1 30
+  pub differs : said (first ++ "G\tor\tw5\t-\t40000000\t00000001\n" ∷ []) ≡ report 1 30
+  pub unread : said (first ++ "G\tor\tw05\t-\t40000000\t00000000\n" ∷ []) ≡ report 22 30
+  pub unlent : said (first ++ last ++ "X\tcall\texpand_array\t-\t3\t-\n" ∷ []) ≡ report 33 32

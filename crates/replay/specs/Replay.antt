@@ -2,13 +2,13 @@
 -- every access, word seen and answer is compared with what the machine's own `exec` does. n is the number of link bits.
 -- Assumes nothing.
 use Prim.Native.Nat.{ℕ, _+_, _*_}
-use mathlib.Core.Bool.{Bool, false, cond, not, _&&_}
+use mathlib.Core.Bool.{Bool, false, cond, not, _&&_, _||_}
 use mathlib.Core.List.{List, [], _∷_}
 use lib.ListN.{length, replicate}
 use lib.Dec.{eqb, ltb}
 use Rattle.word.specs.Entry.{freshEntry}
 use Rattle.calls.specs.declared.types.Domain.{Domain}
-use Rattle.calls.specs.Records.{isFree, freshDomain, freshGuest}
+use Rattle.calls.specs.Records.{isFree, isClearing, freshDomain, freshGuest}
 use Rattle.calls.specs.Hypervisor.{expandArray}
 use Rattle.calls.specs.Guest.{isServing}
 use Rattle.machine.specs.declared.types.Side.{Side}
@@ -21,7 +21,7 @@ use Rattle.machine.specs.declared.types.Event.{Event}
 use Rattle.machine.specs.Memory.{memory}
 use Rattle.machine.specs.Exec.{World, Stepped, exec}
 use Rattle.log.specs.declared.line.LoggedCall.{LoggedCall}
-use Rattle.log.specs.declared.line.LoggedCall.the-variants.{InitControl, ExpandArray, Bind, Close, SetPriority, Raise, Unmask, Service, Mask}
+use Rattle.log.specs.declared.line.LoggedCall.the-variants.{InitControl, ExpandArray, Bind, Close, SetPriority, Raise, Unmask, Service, Mask, ClearMask}
 use Rattle.log.specs.declared.line.Line.{Line}
 use Rattle.log.specs.declared.line.Line.the-variants as line
 use Rattle.log.specs.declared.event.Logged.{Logged}
@@ -59,6 +59,7 @@ stepOfCall (Raise port) = step.Hypervisor (start.Raise port)
 stepOfCall (Unmask port) = step.Hypervisor (start.Unmask port)
 stepOfCall Service = step.Guest guestStart.Service
 stepOfCall (Mask port) = step.Guest (guestStart.Mask port)
+stepOfCall (ClearMask port) = step.Guest (guestStart.ClearMask port)
 
 -- an expand that adds a page
 unfoldable pub adds : ℕ → Domain → LoggedCall → Bool
@@ -71,6 +72,7 @@ adds n d (Raise port) = false
 adds n d (Unmask port) = false
 adds n d Service = false
 adds n d (Mask port) = false
+adds n d (ClearMask port) = false
 
 -- no page more is lent
 abbrev pub isFull : Domain → List ℕ → Bool
@@ -120,9 +122,10 @@ abbrev pub meets : World → List (List ℕ) → ℕ → List ℕ → Player
 meets w [] k text = stopped (report 1 (nextLine k)) []
 meets w (d ∷ ds) k text = cond (same d text) (playing w ds (nextLine k)) (stopped (report 1 (nextLine k)) d)
 
+-- a side with a call under way: of the guest, a clear_mask or a service
 abbrev pub isBusy : World → Side → Bool
 isBusy w side.Hypervisor = not (isFree (w .domain .call .owner))
-isBusy w side.Guest = isServing (w .guest .call .stage)
+isBusy w side.Guest = isClearing (w .guest .clear .stage) || isServing (w .guest .call .stage)
 
 -- the access of that side's call under way is made; where there is none, nothing is due
 abbrev pub makes : ℕ → World → ℕ → Side → List ℕ → Player

@@ -59,7 +59,7 @@ fn zero(words: &mut [u32])
 pub extern "C" fn evtchn_replay_start(
     domain: &mut [u8; 100],
     ledger: &mut [u8],
-    guest: &mut [u8; 88],
+    guest: &mut [u8; 104],
     words: &mut [u32],
     block: &mut [u32; 18],
     due: &mut [u8; 64],
@@ -87,7 +87,7 @@ pub extern "C" fn evtchn_replay_feed(
     position: Position,
     domain: &mut [u8; 100],
     ledger: &mut [u8],
-    guest: &mut [u8; 88],
+    guest: &mut [u8; 104],
     words: &mut [u32],
     block: &mut [u32; 18],
     line: &mut [u8; 64],

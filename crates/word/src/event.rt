@@ -24,6 +24,7 @@ pub fn mask(flag: Flag) -> u32
         Flag::Pending => 0x8000_0000,
         Flag::Masked => 0x4000_0000,
         Flag::Linked => 0x2000_0000,
+        Flag::Busy => 0x1000_0000,
     }
 }
 
@@ -35,6 +36,7 @@ pub fn all_but(flag: Flag) -> u32
         Flag::Pending => 0x7FFF_FFFF,
         Flag::Masked => 0xBFFF_FFFF,
         Flag::Linked => 0xDFFF_FFFF,
+        Flag::Busy => 0xEFFF_FFFF,
     }
 }
 

@@ -1,8 +1,8 @@
 /*
  * The cost of one call, whole, with real atomic accesses: bench CALL REPEATS [PAGES PORT OTHERS]. CALL-locked is the same with a lock
  * taken and given back. Linked with one archive, whose calls the run loops of evtchn_fifo_atomic.h bring to their answer; compiled
- * with IN_PLACE, raise, unmask and service are those of in_place.h instead; with CABLES there are sends too, each a send on a cable and
- * the raise of PORT.
+ * with IN_PLACE, raise, unmask, service and clear_mask are those of in_place.h instead; with CABLES there are sends too, each a send on a
+ * cable and the raise of PORT.
  *
  * The state just before the call is made by the library's own calls: a domain with PAGES pages and a ledger for all of their
  * ports, and OTHERS ports that stand on a queue. Each repeat puts back the few words that the call changed, and no buffer is
@@ -57,6 +57,7 @@ static void fail(const char *text)
 static inline evtchn_fifo_next raise(struct state *s, uint32_t p) { return in_place_raise(&s->domain, s->ledger, s->shared.words, &s->shared, p); }
 static inline evtchn_fifo_next unmask(struct state *s, uint32_t p) { return in_place_unmask(&s->domain, s->ledger, s->shared.words, &s->shared, p); }
 static inline evtchn_fifo_next service(struct state *s) { return in_place_service(&s->guest, &s->shared); }
+static inline evtchn_fifo_next clear_mask(struct state *s, uint32_t p) { return in_place_clear_mask(&s->guest, &s->shared, p); }
 #else
 static inline evtchn_fifo_next raise(struct state *s, uint32_t p)
 {
@@ -74,6 +75,11 @@ static inline evtchn_fifo_next service(struct state *s)
 {
     return evtchn_fifo_guest_run(&s->guest, &s->shared, evtchn_fifo_guest_service(&s->guest));
 }
+
+static inline evtchn_fifo_next clear_mask(struct state *s, uint32_t p)
+{
+    return evtchn_fifo_guest_run(&s->guest, &s->shared, evtchn_fifo_guest_clear_mask(&s->guest, p));
+}
 #endif
 
 static inline void take_lock(struct state *s)
@@ -89,6 +95,7 @@ static inline void give_lock(struct state *s) { __atomic_store_n(&s->lock, 0, __
 WHOLE whole_raise(struct state *s, uint32_t p) { return raise(s, p); }
 WHOLE whole_unmask(struct state *s, uint32_t p) { return unmask(s, p); }
 WHOLE whole_service(struct state *s) { return service(s); }
+WHOLE whole_clear_mask(struct state *s, uint32_t p) { return clear_mask(s, p); }
 
 WHOLE whole_bind(struct state *s, uint32_t p)
 {
@@ -322,6 +329,7 @@ static const struct call {
     {"raise-linked", at_head, whole_raise, 1, EVTCHN_FIFO_DONE, 1, no_port, is_still_linked},
     {"unmask", pending_and_masked, whole_unmask, 1, EVTCHN_FIFO_UPCALL_WANTED, 4, no_port, starts_queue},
     {"unmask-quiet", quiet_and_masked, whole_unmask, 1, EVTCHN_FIFO_DONE, 1, no_port, is_clear},
+    {"clear-mask", quiet_and_masked, whole_clear_mask, 1, EVTCHN_FIFO_DONE, 2, no_port, is_clear},
     {"raise-empty-locked", on_empty_queue, whole_raise_locked, 1, EVTCHN_FIFO_UPCALL_WANTED, 4, no_port, starts_queue},
     {"raise-tail-locked", on_tail, whole_raise_locked, 1, EVTCHN_FIFO_DONE, 4, no_port, ends_queue},
     {"raise-linked-locked", at_head, whole_raise_locked, 1, EVTCHN_FIFO_DONE, 1, no_port, is_still_linked},

@@ -12,8 +12,9 @@ _Static_assert(__BYTE_ORDER__ == __ORDER_LITTLE_ENDIAN__, "a record's words have
 #define IN_PLACE __attribute__((packed, may_alias))
 
 enum owner { OWNER_NONE, BIND, CLOSE, RAISE, UNMASK };
-enum stage { FIRST, R2, R3, R4, R5, R6 };
+enum stage { FIRST, R2, R3, R4, R5, R6, SET_BUSY, CLEAR_BUSY };
 enum guest_stage { SERVICE_NONE, G0, G1, G2, G3, G4 };
+enum clear_mask_stage { CLEAR_MASK_NONE, CLEAR_MASK_READ, CLEAR_MASK_CAS };
 
 typedef struct IN_PLACE domain_record {
     uint32_t given, pages, tails[EVTCHN_FIFO_QUEUES];
@@ -23,6 +24,9 @@ typedef struct IN_PLACE domain_record {
 typedef struct IN_PLACE guest_record {
     uint32_t heads[EVTCHN_FIFO_QUEUES], ready, words;
     uint32_t stage, port, queue, count;
+    struct IN_PLACE {
+        uint32_t stage, port, word, count;
+    } clear_mask;
 } guest_record;
 
 typedef struct IN_PLACE ledger_entry {
@@ -37,6 +41,7 @@ _Static_assert(sizeof(ledger_entry) == EVTCHN_FIFO_ENTRY_SIZE, "a ledger's entry
 #define PENDING 0x80000000u
 #define MASKED 0x40000000u
 #define LINKED 0x20000000u
+#define BUSY 0x10000000u
 #define LINK 0x1FFFFu
 
 /* ledger entries */
@@ -48,7 +53,7 @@ _Static_assert(sizeof(ledger_entry) == EVTCHN_FIFO_ENTRY_SIZE, "a ledger's entry
 
 #define LINK_BITS 17u
 #define MOST_PAGES 128u
-#define MOST_TRIES 4u
+#define MOST_TRIES 5u
 #define LAST_OFFSET 4024u
 
 /* the code of an access */
@@ -71,7 +76,7 @@ static inline uint32_t ready_bit(uint32_t queue) { return 1u << queue % EVTCHN_F
 
 static inline int is_under_way(const domain_record *domain)
 {
-    return domain->owner - BIND <= UNMASK - BIND && domain->stage <= R6;
+    return domain->owner - BIND <= UNMASK - BIND && domain->stage <= CLEAR_BUSY;
 }
 
 static inline int in_array(const domain_record *domain, uint32_t port)
@@ -127,7 +132,17 @@ static inline evtchn_fifo_next name_r3(const domain_record *domain)
 
 static inline evtchn_fifo_next name_r4(const domain_record *domain, uint32_t word)
 {
-    return next_of(ACCESS(CAS, WORD), tail_of(domain, domain->queue), (word & ~LINK) | (domain->port & LINK), word);
+    return next_of(ACCESS(CAS, WORD), tail_of(domain, domain->queue), (word & ~(BUSY | LINK)) | (domain->port & LINK), word);
+}
+
+static inline evtchn_fifo_next name_set_busy(const domain_record *domain)
+{
+    return next_of(ACCESS(OR, WORD), tail_of(domain, domain->queue), BUSY, 0);
+}
+
+static inline evtchn_fifo_next name_clear_busy(const domain_record *domain)
+{
+    return next_of(ACCESS(AND, WORD), tail_of(domain, domain->queue), ~BUSY, 0);
 }
 
 static inline evtchn_fifo_next name_r5(const domain_record *domain, uint32_t queue)
@@ -148,12 +163,26 @@ static inline evtchn_fifo_next go_on_r2(domain_record *domain)
     return name_r2(domain);
 }
 
-static inline evtchn_fifo_next go_on_r4(domain_record *domain, uint32_t seen, uint32_t tries)
+static inline evtchn_fifo_next go_on_r4(domain_record *domain, uint32_t word, uint32_t tries)
 {
-    domain->word = seen;
+    domain->word = word;
     domain->tries = tries;
     go_on(domain, R4);
-    return name_r4(domain, seen);
+    return name_r4(domain, word);
+}
+
+static inline evtchn_fifo_next go_on_set_busy(domain_record *domain)
+{
+    go_on(domain, SET_BUSY);
+    return name_set_busy(domain);
+}
+
+/* What follows the and depends on the word seen before it. */
+static inline evtchn_fifo_next go_on_clear_busy(domain_record *domain, uint32_t seen)
+{
+    domain->word = seen;
+    go_on(domain, CLEAR_BUSY);
+    return name_clear_busy(domain);
 }
 
 static inline evtchn_fifo_next go_on_r5(domain_record *domain, uint32_t queue)
@@ -222,19 +251,48 @@ static inline evtchn_fifo_next r3_reply(domain_record *domain, uint32_t seen)
     return seen & LINKED ? go_on_r4(domain, seen, 1) : go_on_r5(domain, domain->queue);
 }
 
-static inline evtchn_fifo_next r4_reply(domain_record *domain, uint32_t seen)
+static inline evtchn_fifo_next end_linked(domain_record *domain, uint32_t code)
 {
-    if (seen == domain->word) {
-        set_tail(domain);
-        return end(domain, EVTCHN_FIFO_DONE);
-    }
+    set_tail(domain);
+    return end(domain, code);
+}
+
+/* With -DWITHOUT_BUSY, R4 makes document 01's four plain cas: a test of masks that change within a raise must find the event they lose. */
+#ifndef WITHOUT_BUSY
+#define WITHOUT_BUSY 0
+#endif
+
+static inline evtchn_fifo_next not_taken_plain(domain_record *domain, uint32_t seen)
+{
     if (!(seen & LINKED))
         return go_on_r5(domain, domain->queue);
-    if (domain->tries >= MOST_TRIES) {
-        set_tail(domain);
-        return end(domain, EVTCHN_FIFO_LINK_ABANDONED);
-    }
+    return domain->tries >= 4 ? end_linked(domain, EVTCHN_FIFO_LINK_ABANDONED) : go_on_r4(domain, seen, domain->tries + 1);
+}
+
+static inline evtchn_fifo_next not_taken(domain_record *domain, uint32_t seen)
+{
+    if (domain->tries <= 1)
+        return seen & LINKED ? go_on_set_busy(domain) : go_on_r5(domain, domain->queue);
+    if (!(seen & LINKED) || domain->tries >= MOST_TRIES)
+        return go_on_clear_busy(domain, seen);
     return go_on_r4(domain, seen, domain->tries + 1);
+}
+
+static inline evtchn_fifo_next r4_reply(domain_record *domain, uint32_t seen)
+{
+    if (seen == domain->word)
+        return end_linked(domain, EVTCHN_FIFO_DONE);
+    return WITHOUT_BUSY ? not_taken_plain(domain, seen) : not_taken(domain, seen);
+}
+
+static inline evtchn_fifo_next set_busy_reply(domain_record *domain, uint32_t seen)
+{
+    return seen & LINKED ? go_on_r4(domain, seen | BUSY, 2) : go_on_clear_busy(domain, seen);
+}
+
+static inline evtchn_fifo_next clear_busy_reply(domain_record *domain)
+{
+    return domain->word & LINKED ? end_linked(domain, EVTCHN_FIFO_LINK_ABANDONED) : go_on_r5(domain, domain->queue);
 }
 
 static inline evtchn_fifo_next r5_reply(domain_record *domain)
@@ -267,7 +325,9 @@ evtchn_fifo_next evtchn_fifo_reply(uint8_t *domain_bytes, size_t domain_length, 
     case R3: return r3_reply(domain, seen);
     case R4: return r4_reply(domain, seen);
     case R5: return r5_reply(domain);
-    default: return r6_reply(domain, seen);
+    case R6: return r6_reply(domain, seen);
+    case SET_BUSY: return set_busy_reply(domain, seen);
+    default: return clear_busy_reply(domain);
     }
 }
 
@@ -284,7 +344,9 @@ evtchn_fifo_next evtchn_fifo_due(const uint8_t *domain_bytes, size_t domain_leng
     case R3: return name_r3(domain);
     case R4: return name_r4(domain, domain->word);
     case R5: return name_r5(domain, domain->queue);
-    default: return name_r6(domain);
+    case R6: return name_r6(domain);
+    case SET_BUSY: return name_set_busy(domain);
+    default: return name_clear_busy(domain);
     }
 }
 
@@ -429,6 +491,11 @@ evtchn_fifo_next evtchn_fifo_expand_array(uint8_t *domain_bytes, size_t domain_l
 
 static inline int is_serving(const guest_record *guest) { return guest->stage - G0 <= G4 - G0; }
 
+static inline int is_clearing(const guest_record *guest)
+{
+    return guest->clear_mask.stage - CLEAR_MASK_READ <= CLEAR_MASK_CAS - CLEAR_MASK_READ;
+}
+
 static inline void set_head(guest_record *guest, uint32_t queue, uint32_t port)
 {
     if (queue < EVTCHN_FIFO_QUEUES)
@@ -510,18 +577,83 @@ evtchn_fifo_next evtchn_fifo_service(uint8_t *guest_bytes, size_t guest_length)
     guest_record *guest = (guest_record *)guest_bytes;
     if (guest_length < EVTCHN_FIFO_GUEST_SIZE)
         return at_once(EVTCHN_FIFO_TOO_SHORT);
-    if (is_serving(guest))
+    if (is_serving(guest) || is_clearing(guest))
         return at_once(EVTCHN_FIFO_CALL_UNDER_WAY);
     guest->stage = G0;
     guest->count = 1;
     return name_g0();
 }
 
+/* ---- clear_mask ---- */
+
+static inline evtchn_fifo_next name_clear_mask_read(uint32_t port) { return next_of(ACCESS(READ, WORD), port, 0, 0); }
+
+static inline evtchn_fifo_next name_clear_mask_cas(uint32_t port, uint32_t word)
+{
+    return next_of(ACCESS(CAS, WORD), port, word & ~MASKED, word);
+}
+
+static inline evtchn_fifo_next end_clear_mask(guest_record *guest, uint32_t code)
+{
+    guest->clear_mask.stage = CLEAR_MASK_NONE;
+    return next_of(code, 0, guest->clear_mask.count, 0);
+}
+
+static inline evtchn_fifo_next clear_mask_read_reply(guest_record *guest, uint32_t seen)
+{
+    if (!(seen & MASKED))
+        return end_clear_mask(guest, EVTCHN_FIFO_DONE);
+    if (seen & (PENDING | BUSY))
+        return end_clear_mask(guest, EVTCHN_FIFO_CALL_UNMASK);
+    guest->clear_mask.stage = CLEAR_MASK_CAS;
+    guest->clear_mask.word = seen;
+    guest->clear_mask.count = one_more(guest->clear_mask.count);
+    return name_clear_mask_cas(guest->clear_mask.port, seen);
+}
+
+static inline evtchn_fifo_next clear_mask_cas_reply(guest_record *guest, uint32_t seen)
+{
+    return end_clear_mask(guest, seen == guest->clear_mask.word ? EVTCHN_FIFO_DONE : EVTCHN_FIFO_CALL_UNMASK);
+}
+
+/* A function of its own, so that a service's replies do without the registers that it needs. */
+static __attribute__((noinline)) evtchn_fifo_next clear_mask_reply(guest_record *guest, uint32_t seen)
+{
+    return guest->clear_mask.stage == CLEAR_MASK_READ ? clear_mask_read_reply(guest, seen) : clear_mask_cas_reply(guest, seen);
+}
+
+static inline evtchn_fifo_next name_clear_mask(const guest_record *guest)
+{
+    uint32_t port = guest->clear_mask.port;
+    return guest->clear_mask.stage == CLEAR_MASK_READ ? name_clear_mask_read(port) : name_clear_mask_cas(port, guest->clear_mask.word);
+}
+
+evtchn_fifo_next evtchn_fifo_clear_mask(uint8_t *guest_bytes, size_t guest_length, uint64_t port)
+{
+    guest_record *guest = (guest_record *)guest_bytes;
+    if (guest_length < EVTCHN_FIFO_GUEST_SIZE)
+        return at_once(EVTCHN_FIFO_TOO_SHORT);
+    if (is_clearing(guest))
+        return at_once(EVTCHN_FIFO_CALL_UNDER_WAY);
+    if (port == 0 || port >= EVTCHN_FIFO_PORTS)
+        return at_once(EVTCHN_FIFO_BAD_PORT);
+    if (port >= guest->words)
+        return at_once(EVTCHN_FIFO_OUTSIDE_ARRAY);
+    guest->clear_mask.stage = CLEAR_MASK_READ;
+    guest->clear_mask.port = (uint32_t)port;
+    guest->clear_mask.count = 1;
+    return name_clear_mask_read((uint32_t)port);
+}
+
+/* ---- the guest's replies: a clear_mask's while one is under way, else a service's ---- */
+
 evtchn_fifo_next evtchn_fifo_service_reply(uint8_t *guest_bytes, size_t guest_length, uint32_t seen)
 {
     guest_record *guest = (guest_record *)guest_bytes;
     if (guest_length < EVTCHN_FIFO_GUEST_SIZE)
         return at_once(EVTCHN_FIFO_TOO_SHORT);
+    if (is_clearing(guest))
+        return clear_mask_reply(guest, seen);
     switch (guest->stage) {
     case G0: return g0_reply(guest, seen);
     case G1: return take(guest, guest->queue, seen);
@@ -537,6 +669,8 @@ evtchn_fifo_next evtchn_fifo_service_due(const uint8_t *guest_bytes, size_t gues
     const guest_record *guest = (const guest_record *)guest_bytes;
     if (guest_length < EVTCHN_FIFO_GUEST_SIZE)
         return at_once(EVTCHN_FIFO_TOO_SHORT);
+    if (is_clearing(guest))
+        return name_clear_mask(guest);
     switch (guest->stage) {
     case G0: return name_g0();
     case G1: return name_g1(guest->queue);

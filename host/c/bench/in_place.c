@@ -1,6 +1,6 @@
 /*
- * What a hypervisor's author would write instead of the library: document 01's rules on words in shared memory, one after the
- * other, and without proof. The cost of whole calls is measured by it. The fields of the call under way are read for 15 and left.
+ * What a hypervisor's author would write instead of the library: the rules of document 01 and BUSY on words in shared memory, one after
+ * the other, and without proof. The cost of whole calls is measured by it. The fields of the calls under way are read for 15 and left.
  */
 #include "in_place.h"
 
@@ -19,17 +19,19 @@ typedef struct RECORD domain_record {
 } domain_record;
 
 typedef struct RECORD guest_record {
-    uint32_t heads[EVTCHN_FIFO_QUEUES], ready, words, stage;
+    uint32_t heads[EVTCHN_FIFO_QUEUES], ready, words, stage, others[3], clear_mask_stage;
 } guest_record;
 
-#define OWNERS 4u       /* 1 to 4 */
-#define STAGES 6u       /* 0 to 5 */
-#define GUEST_STAGES 5u /* 1 to 5 */
+#define OWNERS 4u            /* 1 to 4 */
+#define STAGES 8u            /* 0 to 7 */
+#define GUEST_STAGES 5u      /* 1 to 5 */
+#define CLEAR_MASK_STAGES 2u /* 1 and 2 */
 
 /* event words */
 #define PENDING 0x80000000u
 #define MASKED 0x40000000u
 #define LINKED 0x20000000u
+#define BUSY 0x10000000u
 #define LINK 0x1FFFFu
 
 /* ledger entries */
@@ -38,7 +40,7 @@ typedef struct RECORD guest_record {
 #define BOUND 0x100u
 #define BEEN_LINKED 0x200u
 
-#define MOST_TRIES 4u
+#define MOST_TRIES 5u
 
 static inline evtchn_fifo_next answer(uint32_t code, uint32_t port, uint32_t count)
 {
@@ -103,22 +105,37 @@ static inline evtchn_fifo_next r5(domain_record *domain, const evtchn_fifo_share
     return answer(EVTCHN_FIFO_UPCALL_WANTED, 0, count + 2);
 }
 
+/* The port is its queue's tail without being its head. */
+static inline evtchn_fifo_next tailed(domain_record *domain, uint32_t port, uint32_t queue, uint32_t code, uint32_t count)
+{
+    domain->tails[queue] = port;
+    return answer(code, 0, count);
+}
+
+static inline uint32_t linked_to(uint32_t word, uint32_t port) { return (word & ~(BUSY | LINK)) | port; }
+
+/* R4 after its first cas: with BUSY set there are four more. */
+static evtchn_fifo_next r4_busy(domain_record *domain, const evtchn_fifo_shared *shared, uint32_t port, uint32_t queue, uint32_t *tail_word)
+{
+    uint32_t seen = fetch_or(tail_word, BUSY) | BUSY, tries;
+    for (tries = 1; (seen & LINKED) && tries < MOST_TRIES; tries++)
+        if (cas(tail_word, &seen, linked_to(seen, port)))
+            return tailed(domain, port, queue, EVTCHN_FIFO_DONE, 5 + tries);
+    fetch_and(tail_word, ~BUSY);
+    if (seen & LINKED)
+        return tailed(domain, port, queue, EVTCHN_FIFO_LINK_ABANDONED, 5 + tries);
+    return r5(domain, shared, port, queue, 5 + tries);
+}
+
 /* The port is linked behind the tail: R3, R4. */
 static inline evtchn_fifo_next r3(domain_record *domain, const evtchn_fifo_shared *shared, uint32_t port, uint32_t queue)
 {
-    uint32_t *tail_word = word_of(shared, domain->tails[queue]), seen = read(tail_word), tries = 0;
-    while (seen & LINKED) {
-        if (tries == MOST_TRIES) {
-            domain->tails[queue] = port;
-            return answer(EVTCHN_FIFO_LINK_ABANDONED, 0, 3 + tries);
-        }
-        tries++;
-        if (cas(tail_word, &seen, (seen & ~LINK) | port)) {
-            domain->tails[queue] = port;
-            return answer(EVTCHN_FIFO_DONE, 0, 3 + tries);
-        }
-    }
-    return r5(domain, shared, port, queue, 3 + tries);
+    uint32_t *tail_word = word_of(shared, domain->tails[queue]), seen = read(tail_word);
+    if (!(seen & LINKED))
+        return r5(domain, shared, port, queue, 3);
+    if (cas(tail_word, &seen, linked_to(seen, port)))
+        return tailed(domain, port, queue, EVTCHN_FIFO_DONE, 4);
+    return seen & LINKED ? r4_busy(domain, shared, port, queue, tail_word) : r5(domain, shared, port, queue, 4);
 }
 
 /* The port's last queue forgets it where it moves to another one. */
@@ -185,7 +202,9 @@ evtchn_fifo_next in_place_unmask(evtchn_fifo_domain *bytes, uint16_t *ledger, si
     return r2(domain, ledger + port, shared, (uint32_t)port, word);
 }
 
-/* ---- service ---- */
+/* ---- service and clear_mask ---- */
+
+static inline int is_clearing(const guest_record *guest) { return guest->clear_mask_stage - 1u < CLEAR_MASK_STAGES; }
 
 /* G3, G4. */
 static inline evtchn_fifo_next g3(uint32_t *word, uint32_t port, uint32_t count)
@@ -219,7 +238,7 @@ evtchn_fifo_next in_place_service(evtchn_fifo_guest *bytes, const evtchn_fifo_sh
 {
     guest_record *guest = (guest_record *)bytes;
     uint32_t ready, queue, port, count = 1;
-    if (guest->stage - 1u < GUEST_STAGES)
+    if (guest->stage - 1u < GUEST_STAGES || is_clearing(guest))
         return answer(EVTCHN_FIFO_CALL_UNDER_WAY, 0, 0);
     ready = guest->ready | (swap(shared->control, 0) & 0xFFFFu);
     guest->ready = ready;
@@ -232,4 +251,24 @@ evtchn_fifo_next in_place_service(evtchn_fifo_guest *bytes, const evtchn_fifo_sh
         count = 2;
     }
     return g2(guest, shared, queue, port, count);
+}
+
+/* 15, 3, 6; else one read and at most one cas. */
+evtchn_fifo_next in_place_clear_mask(evtchn_fifo_guest *bytes, const evtchn_fifo_shared *shared, uint64_t port)
+{
+    const guest_record *guest = (const guest_record *)bytes;
+    uint32_t *word, seen;
+    if (is_clearing(guest))
+        return answer(EVTCHN_FIFO_CALL_UNDER_WAY, 0, 0);
+    if (port - 1u >= EVTCHN_FIFO_PORTS - 1u)
+        return answer(EVTCHN_FIFO_BAD_PORT, 0, 0);
+    if (port >= guest->words)
+        return answer(EVTCHN_FIFO_OUTSIDE_ARRAY, 0, 0);
+    word = word_of(shared, (uint32_t)port);
+    seen = read(word);
+    if (!(seen & MASKED))
+        return answer(EVTCHN_FIFO_DONE, 0, 1);
+    if (seen & (PENDING | BUSY))
+        return answer(EVTCHN_FIFO_CALL_UNMASK, 0, 1);
+    return answer(cas(word, &seen, seen & ~MASKED) ? EVTCHN_FIFO_DONE : EVTCHN_FIFO_CALL_UNMASK, 0, 2);
 }

@@ -1,5 +1,5 @@
 /*
- * Raise, unmask and service of document 01 in C that does not step: each call performs its atomic accesses itself, on the shared
+ * Raise, unmask, service and clear_mask in C that does not step: each call performs its atomic accesses itself, on the shared
  * words. On the library's records and ledger, with its answers and counts of accesses; lock and lengths as evtchn_fifo.h has them.
  */
 #ifndef IN_PLACE_H
@@ -10,5 +10,6 @@
 evtchn_fifo_next in_place_raise(evtchn_fifo_domain *bytes, uint16_t *ledger, size_t entries, const evtchn_fifo_shared *shared, uint64_t port);
 evtchn_fifo_next in_place_unmask(evtchn_fifo_domain *bytes, uint16_t *ledger, size_t entries, const evtchn_fifo_shared *shared, uint64_t port);
 evtchn_fifo_next in_place_service(evtchn_fifo_guest *bytes, const evtchn_fifo_shared *shared);
+evtchn_fifo_next in_place_clear_mask(evtchn_fifo_guest *bytes, const evtchn_fifo_shared *shared, uint64_t port);
 
 #endif

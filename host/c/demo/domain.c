@@ -35,7 +35,7 @@ static void count_access(domain *d, evtchn_fifo_next next, uint32_t seen)
         account->closed++;
 }
 
-/* Any refusal but 4, 5, 7, 25 and 26, which closes and binds bring about, and 18, which is counted by itself. */
+/* Any refusal but 4, 5, 7, 25 and 26, which closes and binds bring about, and 18, which is counted by itself. 35 is no refusal. */
 static bool is_unexpected(uint32_t code)
 {
     switch (code) {
@@ -49,6 +49,7 @@ static bool is_unexpected(uint32_t code)
     case EVTCHN_FIFO_HANDED_OVER:
     case EVTCHN_FIFO_NOTHING_READY:
     case EVTCHN_FIFO_TAKEN:
+    case EVTCHN_FIFO_CALL_UNMASK:
     case EVTCHN_CABLES_TAKEN:
     case EVTCHN_CABLES_NONE:
         return false;
@@ -97,9 +98,8 @@ static bool step(domain *d, side caller, evtchn_fifo_next *next)
 }
 
 /* A call of a side, from its start to its answer. An access outside what is mapped is counted and not made. */
-static evtchn_fifo_next run(domain *d, side caller, evtchn_fifo_next next)
+static evtchn_fifo_next run(domain *d, side caller, tally *t, evtchn_fifo_next next)
 {
-    tally *t = caller == HYPERVISOR ? &d->hypervisor : &d->guest;
     uint32_t made = 0;
     while (evtchn_fifo_is_access(next)) {
         if (!step(d, caller, &next)) {
@@ -116,7 +116,7 @@ static evtchn_fifo_next run(domain *d, side caller, evtchn_fifo_next next)
 
 uint32_t domain_finish(domain *d, evtchn_fifo_next next)
 {
-    next = run(d, HYPERVISOR, next);
+    next = run(d, HYPERVISOR, &d->hypervisor, next);
     pthread_mutex_unlock(&d->lock);
     if (next.code == EVTCHN_FIFO_UPCALL_WANTED)
         upcall_want(&d->upcall);
@@ -167,7 +167,7 @@ uint32_t domain_unmask(domain *d, uint32_t port)
 
 uint32_t domain_service(domain *d, uint32_t *port)
 {
-    evtchn_fifo_next next = run(d, GUEST, evtchn_fifo_trace_service(d->trace, &d->guest_record));
+    evtchn_fifo_next next = run(d, GUEST, &d->guest, evtchn_fifo_trace_service(d->trace, &d->guest_record));
     *port = next.index;
     if (next.code == EVTCHN_FIFO_HANDED_OVER) {
         d->accounts[next.index].handed_over++;
@@ -180,6 +180,11 @@ void domain_mask(domain *d, uint32_t port)
 {
     if (evtchn_fifo_trace_mask(d->trace, &d->shared, port, WORDS).code != EVTCHN_FIFO_DONE)
         d->guest.outside++;
+}
+
+uint32_t domain_clear_mask(domain *d, uint32_t port)
+{
+    return run(d, GUEST, &d->clear_masks, evtchn_fifo_trace_clear_mask(d->trace, &d->guest_record, port)).code;
 }
 
 static void fresh(domain *d)

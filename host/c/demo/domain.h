@@ -17,11 +17,12 @@
 #define PENDING 0x80000000u
 #define MASKED 0x40000000u
 #define LINKED 0x20000000u
+#define BUSY 0x10000000u
 
 /* How a guest behaves, and what the hypervisor does with its ports beside raises. */
 typedef enum conduct {
     PLAIN,     /* services */
-    MASKING,   /* services, masks, and asks for unmask */
+    MASKING,   /* services, masks, and unmasks: by clear_mask, and where that gives 35 it asks for unmask */
     REOPENING, /* services, while ports are closed, bound again and given other priorities */
     HOSTILE,   /* services, and writes random words all the time */
     CONDUCTS
@@ -63,6 +64,12 @@ typedef struct tally {
     uint64_t accesses;
 } tally;
 
+/* A guest's unmasks. */
+typedef struct unmask_tally {
+    uint64_t without_call; /* clear_mask answered 0 */
+    uint64_t with_call;    /* it answered 35, and the hypervisor's unmask was called */
+} unmask_tally;
+
 /* What wakes an idle guest. */
 typedef struct upcall {
     pthread_mutex_t lock;
@@ -93,7 +100,9 @@ typedef struct domain {
     evtchn_fifo_shared shared;
 
     evtchn_fifo_guest guest_record;
-    tally guest;
+    tally guest; /* of services and masks */
+    tally clear_masks;
+    unmask_tally unmasks;
     atomic_ullong hand_overs; /* for the progress line */
     upcall upcall;
 
@@ -123,6 +132,9 @@ uint32_t domain_service(domain *d, uint32_t *port);
 
 /* A mask of the guest's, with its access. */
 void domain_mask(domain *d, uint32_t port);
+
+/* A clear_mask of the guest's, from its start to its answer: the answer's number. */
+uint32_t domain_clear_mask(domain *d, uint32_t port);
 
 void upcall_want(upcall *u);
 void upcall_stop(upcall *u);

@@ -27,7 +27,7 @@
 
 typedef enum order_kind {
     INIT, EXPAND, BIND, CLOSE, RAISE, UNMASK, SET_PRIORITY, REPLY, /* the hypervisor's, on one domain */
-    SERVICE, SERVICE_REPLY, MASK, TELL,                            /* a guest's */
+    SERVICE, CLEAR_MASK, GUEST_REPLY, MASK, TELL,                  /* a guest's */
     LAY, CUT, SEND                                                 /* between domains */
 } order_kind;
 
@@ -35,7 +35,7 @@ typedef enum order_kind {
 static const order_kind kinds[] = {
     INIT, EXPAND, BIND, BIND, BIND, BIND, BIND, CLOSE, RAISE, RAISE, RAISE, RAISE, UNMASK, UNMASK, SET_PRIORITY,
     REPLY, REPLY, REPLY, REPLY, REPLY, REPLY, REPLY, REPLY, REPLY, REPLY, REPLY, REPLY, REPLY, REPLY,
-    SERVICE, SERVICE, SERVICE_REPLY, SERVICE_REPLY, SERVICE_REPLY, SERVICE_REPLY, SERVICE_REPLY, SERVICE_REPLY, MASK, TELL,
+    SERVICE, SERVICE, CLEAR_MASK, GUEST_REPLY, GUEST_REPLY, GUEST_REPLY, GUEST_REPLY, GUEST_REPLY, GUEST_REPLY, MASK, TELL,
     LAY, LAY, LAY, LAY, LAY, LAY, CUT, SEND, SEND, SEND, SEND, SEND, SEND, SEND, SEND, SEND, SEND, SEND, SEND,
 };
 
@@ -133,7 +133,7 @@ static uint32_t reply(run *r, const order *o)
     return next.code;
 }
 
-static uint32_t service_reply(run *r, const order *o)
+static uint32_t guest_reply(run *r, const order *o)
 {
     state *d = &r->domains[o->domain];
     evtchn_fifo_next due = evtchn_fifo_guest_service_due(&d->guest);
@@ -222,7 +222,8 @@ static uint32_t apply(run *r, const order *o)
     case SET_PRIORITY: return evtchn_fifo_trace_set_priority(trace, &d->record, d->ledger, WORDS, o->port, o->argument).code;
     case REPLY: return reply(r, o);
     case SERVICE: return evtchn_fifo_trace_service(trace, &d->guest).code;
-    case SERVICE_REPLY: return service_reply(r, o);
+    case CLEAR_MASK: return evtchn_fifo_trace_clear_mask(trace, &d->guest, o->port).code;
+    case GUEST_REPLY: return guest_reply(r, o);
     case MASK: return mask(r, o);
     case TELL: return evtchn_fifo_guest_tell(&d->guest, o->argument % (PAGES + 1) * EVTCHN_FIFO_PAGE_WORDS).code;
     case LAY: return lay(r, o);

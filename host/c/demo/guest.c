@@ -31,14 +31,28 @@ static void mask(domain *d, masked_ports *masked, uint32_t port)
     masked->port[masked->count++] = port;
 }
 
-/* An unmask is a call of the hypervisor's, which the guest asks for. */
-static void ask_for_unmask(domain *d, masked_ports *masked)
+/* A guest clears MASKED by itself, and asks for the hypervisor's unmask only where clear_mask gives 35. */
+static void unmask(domain *d, uint32_t port)
 {
-    while (masked->count > 0)
-        domain_unmask(d, masked->port[--masked->count]);
+    switch (domain_clear_mask(d, port)) {
+    case EVTCHN_FIFO_DONE:
+        d->unmasks.without_call++;
+        break;
+    case EVTCHN_FIFO_CALL_UNMASK:
+        d->unmasks.with_call++;
+        domain_unmask(d, port);
+        break;
+    default: break; /* a refusal, which is counted with its answer */
+    }
 }
 
-/* A send is a call of the hypervisor's too. The far guest may answer it by another, so that none is begun once the host is stopped. */
+static void unmask_all(domain *d, masked_ports *masked)
+{
+    while (masked->count > 0)
+        unmask(d, masked->port[--masked->count]);
+}
+
+/* A send is a call of the hypervisor's. The far guest may answer it by another, so that none is begun once the host is stopped. */
 static void ask_for_send(guest_thread *self, uint32_t port)
 {
     if (self->domain->partner != NULL && !atomic_load(&self->host->stopped))
@@ -69,7 +83,7 @@ static void serve_upcalls(guest_thread *self, uint64_t *random)
     masked_ports masked = {{0}, 0};
     while (upcall_wait(&self->domain->upcall)) {
         serve_until_idle(self, &masked, random);
-        ask_for_unmask(self->domain, &masked);
+        unmask_all(self->domain, &masked);
     }
 }
 

@@ -8,14 +8,19 @@
 #include "report.h"
 
 /* Demand 1's limits, and that of a raise of a guest that keeps the rules. */
-#define MOST_ACCESSES 9u
+#define MOST_ACCESSES 12u
 #define MOST_OF_A_SERVICE 5u
-#define MOST_WITH_RULES_KEPT 8u
+#define MOST_OF_A_CLEAR_MASK 2u
+#define MOST_WITH_RULES_KEPT 11u
+
+/* Of so many unmasks not each can need a call by chance. */
+#define ENOUGH_UNMASKS 16u
 
 typedef struct group {
     uint32_t domains, joined, longest;
     uint64_t raises, hand_overs, coalesced, closed, lost, doubled, abandoned;
     uint64_t sent, received, refused, laid, cut;
+    uint64_t unmasks, calls; /* unmasks, and those of them that called the hypervisor */
 } group;
 
 static uint32_t word_of(const domain *d, uint32_t port)
@@ -50,6 +55,8 @@ static void add_domain(group *g, const domain *d)
     g->refused += d->cable_tally.refused;
     g->laid += d->cable_tally.laid;
     g->cut += d->cable_tally.cut;
+    g->unmasks += d->unmasks.without_call + d->unmasks.with_call;
+    g->calls += d->unmasks.with_call;
     for (port = 0; port < WORDS; port++)
         add_port(g, d, port);
 }
@@ -96,6 +103,15 @@ static void print_cables(const char *name, const group *g)
     printf("\n");
 }
 
+/* What follows the row's name: so many unmasks and calls, and the share of the unmasks that needed none. */
+static void print_unmasks(uint64_t unmasks, uint64_t calls)
+{
+    print_number(unmasks, 13);
+    print_number(calls, 13);
+    print_number((unmasks - calls) * 100 / unmasks, 24);
+    printf(" %%\n");
+}
+
 static void report_events(const host *h, double seconds)
 {
     int c;
@@ -108,6 +124,21 @@ static void report_events(const host *h, double seconds)
     }
     printf("\nRaises are hand-overs, coalesced and closed (a close found the event pending).\n"
            "What a hostile guest loses is its own.\n");
+}
+
+/* Beside the unmasks of masking guests, what as many come to where each is a call. */
+static void report_unmasks(const host *h)
+{
+    group g = sum(h, MASKING);
+    if (g.unmasks == 0)
+        return;
+    printf("\n%-10s%8s%13s%13s%26s\n", "guests", "domains", "unmasks", "calls", "unmasks without a call");
+    printf("%-10s", conduct_names[MASKING]);
+    print_number(g.domains, 8);
+    print_unmasks(g.unmasks, g.calls);
+    printf("%-18s", "without clear_mask");
+    print_unmasks(g.unmasks, g.unmasks);
+    printf("\nA masking guest unmasks by clear_mask and calls unmask only on 35; without clear_mask each unmask is a call.\n");
 }
 
 static void report_cables(const host *h)
@@ -125,6 +156,7 @@ static void report_cables(const host *h)
 void report_tables(const host *h, double seconds)
 {
     report_events(h, seconds);
+    report_unmasks(h);
     if (h->count > 1)
         report_cables(h);
 }
@@ -187,6 +219,16 @@ static uint64_t left_behind(const domain *d)
     return left;
 }
 
+/* words that are MASKED or BUSY then: a guest unmasks all that it masked before it waits */
+static uint64_t left_masked(const domain *d)
+{
+    uint64_t left = 0;
+    uint32_t port;
+    for (port = 0; port < WORDS; port++)
+        left += (word_of(d, port) & (MASKED | BUSY)) != 0;
+    return left;
+}
+
 static uint64_t nothing_sent(const domain *d)
 {
     group g = {0};
@@ -195,13 +237,15 @@ static uint64_t nothing_sent(const domain *d)
 }
 
 static uint64_t nothing_handed_over(const domain *d) { return atomic_load(&d->hand_overs) == 0; }
+static uint64_t always_calls(const domain *d) { return d->unmasks.without_call == 0 && d->unmasks.with_call >= ENOUGH_UNMASKS; }
 static uint64_t abandoned(const domain *d) { return d->hypervisor.abandoned; }
 static uint64_t bad_indices(const domain *d) { return d->guest.bad_index; }
 static uint64_t long_raises(const domain *d) { return d->hypervisor.longest > MOST_WITH_RULES_KEPT; }
 static uint64_t long_calls(const domain *d) { return d->hypervisor.longest > MOST_ACCESSES || d->guest.longest > MOST_OF_A_SERVICE; }
-static uint64_t outside(const domain *d) { return d->hypervisor.outside + d->guest.outside; }
-static uint64_t miscounted(const domain *d) { return d->hypervisor.miscounted + d->guest.miscounted; }
-static uint64_t refused(const domain *d) { return d->hypervisor.refused + d->guest.refused; }
+static uint64_t long_clear_masks(const domain *d) { return d->clear_masks.longest > MOST_OF_A_CLEAR_MASK; }
+static uint64_t outside(const domain *d) { return d->hypervisor.outside + d->guest.outside + d->clear_masks.outside; }
+static uint64_t miscounted(const domain *d) { return d->hypervisor.miscounted + d->guest.miscounted + d->clear_masks.miscounted; }
+static uint64_t refused(const domain *d) { return d->hypervisor.refused + d->guest.refused + d->clear_masks.refused; }
 
 static const struct claim {
     const char *text;
@@ -210,14 +254,17 @@ static const struct claim {
 } claims[] = {
     {"each port's events are its hand-overs and those that a close found", wrong_accounts, false},
     {"at the end no port is linked, and what is pending is masked", left_behind, false},
+    {"at the end no port is masked or BUSY", left_masked, false},
     {"each guest was handed events", nothing_handed_over, false},
+    {"no masking guest needs a call for every unmask", always_calls, false},
     {"each guest that cables join to another sent, and was sent to", nothing_sent, false},
     {"each port's sends are raises of the port at its cable's other end, and none is refused", wrong_sends, true},
     {"each cable was cut by a close, or joins two bound ports at the end", wrong_cables, true},
     {"no link is abandoned (2)", abandoned, false},
     {"no service is refused an index (18)", bad_indices, false},
-    {"no call makes more than eight accesses", long_raises, false},
-    {"no call makes more than nine accesses, no service more than five", long_calls, true},
+    {"no call makes more than eleven accesses", long_raises, false},
+    {"no call makes more than twelve accesses, no service more than five", long_calls, true},
+    {"no clear_mask makes more than two accesses", long_clear_masks, true},
     {"no access is outside the array and the control block", outside, true},
     {"each answer's count is the number of accesses made", miscounted, true},
     {"no call is refused but for a port that is bound or not, still linked, joined or not", refused, true},

@@ -100,19 +100,20 @@ static evtchn_fifo_next service(void) { return evtchn_fifo_service(record, lengt
 static evtchn_fifo_next service_reply(void) { return evtchn_fifo_service_reply(record, length, seen); }
 static evtchn_fifo_next service_due(void) { return evtchn_fifo_service_due(record, length); }
 static evtchn_fifo_next tell(void) { return evtchn_fifo_tell(record, length, seen); }
+static evtchn_fifo_next clear_mask(void) { return evtchn_fifo_clear_mask(record, length, PORT); }
 
 static const call domain_calls[] = {{"fresh_domain", fresh_domain}, {"init_control", init_control}, {"expand_array", expand_array},
                                     {"bind", bind}, {"close", close}, {"set_priority", set_priority}, {"raise", raise},
                                     {"unmask", unmask}, {"reply", reply}, {"due", due}, {NULL, NULL}};
 static const call guest_calls[] = {{"fresh_guest", fresh_guest}, {"service", service}, {"service_reply", service_reply},
-                                   {"service_due", service_due}, {"tell", tell}, {NULL, NULL}};
+                                   {"service_due", service_due}, {"clear_mask", clear_mask}, {"tell", tell}, {NULL, NULL}};
 
 /* ---- records in many states, each a number below a limit ---- */
 
 static uint32_t word_of(unsigned number)
 {
-    static const uint32_t words[] = {0, 0x80000000u, 0xA0000005u, 0xFFFFFFFFu};
-    return words[number % 4];
+    static const uint32_t words[] = {0, 0x80000000u, 0xA0000005u, 0x60000005u, 0xFFFFFFFFu};
+    return words[number % 5];
 }
 
 /* the block given or not, the port in the array or not, bound or not; each owner and stage; a word to hand back */
@@ -123,18 +124,20 @@ static void set_domain(unsigned state)
     put(bytes, 4, state / 2 % 2);
     table[PORT * EVTCHN_FIFO_ENTRY_SIZE + 1] = (uint8_t)(state / 4 % 2);
     put(bytes, 72, state / 8 % 5);
-    put(bytes, 76, state / 40 % 6);
+    put(bytes, 76, state / 40 % 9);
     put(bytes, 80, PORT);
-    seen = word_of(state / 240);
+    seen = word_of(state / 360);
 }
 
-/* no words or many, each stage, a word to hand back */
+/* no words or many, each stage of a service and of a clear_mask, a word to hand back */
 static void set_guest(unsigned state)
 {
     fill();
     put(bytes, 68, state % 2 * 131072);
     put(bytes, 72, state / 2 % 6);
-    seen = word_of(state / 12);
+    put(bytes, 88, state / 12 % 4);
+    put(bytes, 92, PORT);
+    seen = word_of(state / 48);
 }
 
 /* a side's record: its size, its calls and its states */
@@ -145,8 +148,8 @@ typedef struct side {
     unsigned states;
 } side;
 
-static const side domain_side = {EVTCHN_FIFO_DOMAIN_SIZE, domain_calls, set_domain, 960};
-static const side guest_side = {EVTCHN_FIFO_GUEST_SIZE, guest_calls, set_guest, 48};
+static const side domain_side = {EVTCHN_FIFO_DOMAIN_SIZE, domain_calls, set_domain, 1800};
+static const side guest_side = {EVTCHN_FIFO_GUEST_SIZE, guest_calls, set_guest, 240};
 
 /* ---- the tests ---- */
 
@@ -207,16 +210,17 @@ static void longer_slices(const side *of)
 
 static void slices(const side *of)
 {
-    short_slices(of, bytes, of->size - 1);
-    short_slices(of, bytes, 1);
+    size_t lent;
     short_slices(of, NULL, 0);
+    for (lent = 0; lent < of->size; lent++)
+        short_slices(of, bytes, lent);
     longer_slices(of);
 }
 
 /* fresh records are zeros */
 static void fresh(void)
 {
-    uint8_t zeros[EVTCHN_FIFO_DOMAIN_SIZE];
+    uint8_t zeros[EVTCHN_FIFO_GUEST_SIZE];
     memset(zeros, 0, sizeof zeros);
     fill();
     CHECK(evtchn_fifo_fresh_domain(bytes + 1, EVTCHN_FIFO_DOMAIN_SIZE) == 0);

@@ -1,4 +1,4 @@
-/* C1 to C12 of document 01 through the C boundary, over real memory: the log, line by line, is that of cases.txt. */
+/* C1 to C12 of document 01, C12 with BUSY, through the C boundary, over real memory: the log, line by line, is that of cases.txt. */
 #include <stdlib.h>
 
 #include "check.h"
@@ -133,7 +133,8 @@ static void c11(void)
 
 static void c12(void)
 {
-    static const uint32_t seen[] = {0x00000000u, 0x80000000u, 0xA0000000u, 0xE0000000u, 0xA0000000u, 0xE0000000u, 0xA0000000u};
+    static const uint32_t seen[] = {0x00000000u, 0x80000000u, 0xA0000000u, 0xE0000000u, 0xA0000000u,
+                                    0xF0000000u, 0xB0000000u, 0xF0000000u, 0xB0000000u, 0xB0000000u};
     evtchn_fifo_next next;
     size_t k;
     begin_after(AFTER_C1);
@@ -144,7 +145,7 @@ static void c12(void)
     next = world_raise_start(&w, 9);
     for (k = 0; k < sizeof seen / sizeof seen[0]; k++)
         next = world_hand_back(&w, 'X', next, seen[k]);
-    CHECK(answers(next, 2, 7));
+    CHECK(answers(next, 2, 10));
     CHECK(world_tail(&w, 7) == 9);
 }
 

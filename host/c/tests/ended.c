@@ -1,6 +1,6 @@
 /*
- * What the bytes of a call that has ended hold: its owner, or a service's stage, is 0; the words that its last rule changes are
- * changed; every other byte stays.
+ * What the bytes of a call that has ended hold: its owner, or a service's or a clear_mask's stage, is 0; the words that its last rule
+ * changes are changed; every other byte stays.
  */
 #include <string.h>
 
@@ -16,14 +16,17 @@
 #define PENDING 0x80000000u
 #define MASKED 0x40000000u
 #define LINKED 0x20000000u
+#define BUSY 0x10000000u
 
 /* places of a domain's record, and of a guest's */
 enum { TAIL = 8 + 4 * QUEUE, OWNER = 72, STAGE = 76, CALL_PORT = 80, CALL_QUEUE = 84, CALL_WORD = 88, TRIES = 92, COUNT = 96 };
 enum { HEAD = 4 * QUEUE, READY = 64, SERVICE_STAGE = 72, SERVICE_PORT = 76, SERVICE_QUEUE = 80, SERVICE_COUNT = 84 };
+enum { CLEAR_STAGE = 88, CLEAR_PORT = 92, CLEAR_WORD = 96, CLEAR_COUNT = 100 };
 
 enum { BIND = 1, CLOSE, RAISE, UNMASK };
-enum { FIRST, R2, R3, R4, R5, R6 };
+enum { FIRST, R2, R3, R4, R5, R6, SET_BUSY, CLEAR_BUSY };
 enum { G0 = 1, G1, G2, G3, G4 };
+enum { READ = 1, CAS };
 
 static void fill(uint8_t *bytes, size_t size)
 {
@@ -49,7 +52,9 @@ static const ended_call calls[] = {
     {UNMASK, FIRST, 0, PENDING | LINKED, EVTCHN_FIFO_DONE, 0x0377, 0x0377, 0},
     {RAISE, R2, 0, LINKED, EVTCHN_FIFO_DONE, 0x0377, 0x0377, 0},
     {RAISE, R4, 1, PENDING | LINKED, EVTCHN_FIFO_DONE, 0x0377, 0x0377, 1},
-    {UNMASK, R4, 4, LINKED, EVTCHN_FIFO_LINK_ABANDONED, 0x0377, 0x0377, 1},
+    {UNMASK, R4, 5, PENDING | LINKED, EVTCHN_FIFO_DONE, 0x0377, 0x0377, 1},
+    {RAISE, CLEAR_BUSY, 0, PENDING | LINKED | BUSY, EVTCHN_FIFO_LINK_ABANDONED, 0x0377, 0x0377, 1},
+    {UNMASK, CLEAR_BUSY, 0, 0, EVTCHN_FIFO_LINK_ABANDONED, 0x0377, 0x0377, 1},
     {RAISE, R6, 0, 0, EVTCHN_FIFO_UPCALL_WANTED, 0x0377, 0x0377, 0},
     {UNMASK, R6, 0, 1u << QUEUE, EVTCHN_FIFO_DONE, 0x0377, 0x0377, 0},
 };
@@ -125,6 +130,41 @@ static void check_service(const ended_service *service)
     CHECK(memcmp(guest, expected, sizeof guest) == 0);
 }
 
+/* A clear_mask that its reply ends; its cas compares with MASKED alone. */
+typedef struct ended_clear {
+    uint32_t stage, seen, answer;
+} ended_clear;
+
+static const ended_clear clears[] = {
+    {READ, 0, EVTCHN_FIFO_DONE},
+    {READ, PENDING | LINKED | BUSY, EVTCHN_FIFO_DONE},
+    {READ, MASKED | PENDING, EVTCHN_FIFO_CALL_UNMASK},
+    {READ, MASKED | BUSY, EVTCHN_FIFO_CALL_UNMASK},
+    {CAS, MASKED, EVTCHN_FIFO_DONE},
+    {CAS, MASKED | LINKED, EVTCHN_FIFO_CALL_UNMASK},
+    {CAS, 0, EVTCHN_FIFO_CALL_UNMASK},
+};
+
+static void check_clear(const ended_clear *clear)
+{
+    uint8_t guest[EVTCHN_FIFO_GUEST_SIZE], expected[sizeof guest];
+    evtchn_fifo_next next;
+    fill(guest, sizeof guest);
+    put(guest, CLEAR_STAGE, clear->stage);
+    put(guest, CLEAR_PORT, PORT);
+    put(guest, CLEAR_WORD, MASKED);
+    put(guest, CLEAR_COUNT, ACCESSES);
+    memcpy(expected, guest, sizeof guest);
+    put(expected, CLEAR_STAGE, 0);
+
+    next = evtchn_fifo_service_reply(guest, sizeof guest, clear->seen);
+    CHECK(next.code == clear->answer && next.index == 0 && next.value == ACCESSES && next.old == 0);
+    CHECK(memcmp(guest, expected, sizeof guest) == 0);
+    CHECK(evtchn_fifo_service_due(guest, sizeof guest).code == EVTCHN_FIFO_NO_CALL);
+    CHECK(evtchn_fifo_service_reply(guest, sizeof guest, PENDING).code == EVTCHN_FIFO_NO_CALL);
+    CHECK(memcmp(guest, expected, sizeof guest) == 0);
+}
+
 int main(void)
 {
     size_t k;
@@ -132,5 +172,7 @@ int main(void)
         check_call(calls + k);
     for (k = 0; k < sizeof services / sizeof services[0]; k++)
         check_service(services + k);
+    for (k = 0; k < sizeof clears / sizeof clears[0]; k++)
+        check_clear(clears + k);
     return check_end();
 }

@@ -128,6 +128,26 @@ static void unmapped_runs(void)
     CHECK(next.code == 1 && next.value == 4);
 }
 
+/* a clear_mask on a word that is not mapped: its read comes back, and then its cas */
+static void unmapped_clear_mask(void)
+{
+    evtchn_fifo_guest guest;
+    evtchn_fifo_next next;
+    memset(&memory, 0, sizeof memory);
+    memory.words[5] = 0x40000000u;
+    evtchn_fifo_guest_fresh(&guest);
+    evtchn_fifo_guest_tell(&guest, EVTCHN_FIFO_PAGE_WORDS);
+    shared.words = 5;
+    next = evtchn_fifo_guest_run(&guest, &shared, evtchn_fifo_guest_clear_mask(&guest, 5));
+    CHECK(next.code == 0x100 && next.index == 5);
+    next = evtchn_fifo_guest_service_reply(&guest, memory.words[5]);
+    next = evtchn_fifo_guest_run(&guest, &shared, next);
+    CHECK(next.code == 0x150 && next.index == 5 && next.value == 0 && next.old == 0x40000000u && memory.words[5] == 0x40000000u);
+    shared.words = MAPPED;
+    next = evtchn_fifo_guest_run(&guest, &shared, next);
+    CHECK(next.code == 0 && next.value == 2 && memory.words[5] == 0);
+}
+
 int main(void)
 {
     codes();
@@ -135,5 +155,6 @@ int main(void)
     codes();
     shared.control = memory.control;
     unmapped_runs();
+    unmapped_clear_mask();
     return check_end();
 }

@@ -32,7 +32,10 @@ static void put_entry(uint32_t port, uint32_t entry)
     ledger[2 * port + 1] = (uint8_t)(entry >> 8);
 }
 
-enum { GIVEN = 0, PAGES = 4, OWNER = 72, STAGE = 76, PORT = 80, COUNT = 96, GUEST_STAGE = 72, GUEST_WORDS = 68 };
+enum { GIVEN = 0, PAGES = 4, OWNER = 72, STAGE = 76, PORT = 80, COUNT = 96 };
+enum { GUEST_WORDS = 68, GUEST_STAGE = 72, CLEAR_STAGE = 88 };
+
+#define LAST_STAGE 7u
 
 typedef evtchn_fifo_next call(void);
 
@@ -53,6 +56,7 @@ static evtchn_fifo_next service(void) { return evtchn_fifo_service(GUEST); }
 static evtchn_fifo_next service_reply(void) { return evtchn_fifo_service_reply(GUEST, in.seen); }
 static evtchn_fifo_next service_due(void) { return evtchn_fifo_service_due(GUEST); }
 static evtchn_fifo_next mask(void) { return evtchn_fifo_mask(in.port, in.words); }
+static evtchn_fifo_next clear_mask(void) { return evtchn_fifo_clear_mask(GUEST, in.port); }
 static evtchn_fifo_next tell(void) { return evtchn_fifo_tell(GUEST, in.words); }
 
 static void keep(void)
@@ -192,7 +196,9 @@ static void expand_row(void)
     put(domain, GIVEN, 0);
     put(domain, PAGES, 200);
     REFUSED(expand_array, 15);
-    put(domain, STAGE, 6);
+    put(domain, STAGE, LAST_STAGE);
+    REFUSED(expand_array, 15);
+    put(domain, STAGE, LAST_STAGE + 1);
     REFUSED(expand_array, 10);
     put(domain, GIVEN, 0x80000000u);
     REFUSED(expand_array, 13);
@@ -214,6 +220,8 @@ static void port_rows(call *f)
     in.port = UINT64_C(0x1000007D0);
     in.entries = 10;
     in.priority = UINT64_C(0x100000000);
+    REFUSED(f, 15);
+    put(domain, STAGE, LAST_STAGE);
     REFUSED(f, 15);
     put(domain, OWNER, 0);
     REFUSED(f, 10);
@@ -288,12 +296,15 @@ static void reply_row(void)
     put(domain, OWNER, 5);
     REFUSED(reply, 16);
     put(domain, OWNER, 3);
-    put(domain, STAGE, 6);
+    put(domain, STAGE, LAST_STAGE + 1);
+    REFUSED(reply, 16);
+    REFUSED(due, 16);
+    put(domain, STAGE, 0xFFFFFFFFu);
     REFUSED(reply, 16);
     put(domain, PORT, 700);
     in.entries = 700;
     for (owner = 1; owner <= 4; owner++)
-        for (stage = 0; stage <= 5; stage++) {
+        for (stage = 0; stage <= LAST_STAGE; stage++) {
             put(domain, OWNER, owner);
             put(domain, STAGE, stage);
             REFUSED(reply, 14);
@@ -343,6 +354,70 @@ static void guest_rows(void)
         evtchn_fifo_next next = accepted(service_reply);
         CHECK(next.code == 18 && next.value == 1 && guest[64] == 0 && guest[65] == 1 && guest[28] == 0 && guest[29] == 0);
     }
+}
+
+/* a record that is too short by a byte, or as long as one of layout 1 */
+static evtchn_fifo_next clear_mask_short(void) { return evtchn_fifo_clear_mask(guest, EVTCHN_FIFO_GUEST_SIZE - 1, in.port); }
+static evtchn_fifo_next clear_mask_shorter(void) { return evtchn_fifo_clear_mask(guest, 88, in.port); }
+static evtchn_fifo_next service_short(void) { return evtchn_fifo_service(guest, EVTCHN_FIFO_GUEST_SIZE - 1); }
+
+/* 64, 15 by either stage, 3, 6; a service under way does not refuse it */
+static void clear_mask_row(void)
+{
+    fill();
+    put(guest, CLEAR_STAGE, 1);
+    put(guest, GUEST_STAGE, 3);
+    put(guest, GUEST_WORDS, 5);
+    in.port = UINT64_C(0x100000005);
+    REFUSED(clear_mask_short, 64);
+    REFUSED(clear_mask_shorter, 64);
+    REFUSED(clear_mask, 15);
+    put(guest, CLEAR_STAGE, 2);
+    REFUSED(clear_mask, 15);
+    in.port = 4;
+    REFUSED(clear_mask, 15);
+    put(guest, CLEAR_STAGE, 3);
+    in.port = 0;
+    REFUSED(clear_mask, 3);
+    in.port = EVTCHN_FIFO_PORTS;
+    REFUSED(clear_mask, 3);
+    in.port = 5;
+    REFUSED_FROM(clear_mask, in.port, 17, 3);
+    REFUSED(clear_mask, 6);
+    put(guest, GUEST_WORDS, EVTCHN_FIFO_PORTS - 1);
+    in.port = EVTCHN_FIFO_PORTS - 1;
+    REFUSED(clear_mask, 6);
+    put(guest, GUEST_WORDS, 0xFFFFFFFFu);
+    in.port = EVTCHN_FIFO_PORTS;
+    REFUSED(clear_mask, 3);
+    in.port = EVTCHN_FIFO_PORTS - 1;
+    {
+        evtchn_fifo_next next = accepted(clear_mask);
+        CHECK(next.code == 0x100 && next.index == EVTCHN_FIFO_PORTS - 1 && next.value == 0 && next.old == 0);
+    }
+    REFUSED(clear_mask, 15);
+}
+
+/* 15 of a service by a clear_mask under way, and by one of each; then its replies are refused with 16 */
+static void service_in_clear_mask_row(void)
+{
+    fill();
+    put(guest, GUEST_STAGE, 0);
+    put(guest, CLEAR_STAGE, 1);
+    REFUSED(service_short, 64);
+    REFUSED(service, 15);
+    put(guest, CLEAR_STAGE, 2);
+    REFUSED(service, 15);
+    put(guest, GUEST_STAGE, 4);
+    REFUSED(service, 15);
+    put(guest, CLEAR_STAGE, 3);
+    REFUSED(service, 15);
+    put(guest, GUEST_STAGE, 0);
+    REFUSED(service_reply, 16);
+    REFUSED(service_due, 16);
+    put(guest, CLEAR_STAGE, 0xFFFFFFFFu);
+    REFUSED(service_reply, 16);
+    CHECK(accepted(service).code == 0x141);
 }
 
 /* the last port is inside so many words, with any lower bits */
@@ -418,6 +493,8 @@ static void rows(void)
     reply_row();
     guest_rows();
     mask_row();
+    clear_mask_row();
+    service_in_clear_mask_row();
     tell_row();
 }
 

@@ -47,7 +47,7 @@ static uint8_t *guarded(size_t size, size_t *room)
 
 static void make_areas(void)
 {
-    static const size_t sizes[AREAS] = {100, 88, 72, 64, 64, LEDGER_BYTES, WORDS * 4};
+    static const size_t sizes[AREAS] = {100, 104, 72, 64, 64, LEDGER_BYTES, WORDS * 4};
     size_t room;
     int k;
     for (k = 0; k < AREAS; k++) {
@@ -307,7 +307,7 @@ static void good_log_so_far(void)
                 holds = holds && reports(EVTCHN_REPLAY_NOT_OF_THE_FORM, k + 1) && position.line == at + 1;
         }
         holds = holds && reports(is_due ? EVTCHN_REPLAY_DIFFERS : EVTCHN_REPLAY_AGREES, is_due ? k + 2 : k + 1);
-        holds = holds && position.mask == (strcmp(text, "G\tcall\tmask\t9\t-\t-\n") == 0);
+        holds = holds && position.mask == (strncmp(text, "G\tcall\tmask\t", 12) == 0 && strstr(good_lines[k + 1].text, "\tor\t") != NULL);
         if (is_due)
             holds = holds && is_text(areas[DUE].lent, position.due, good_lines[k + 1].text);
     }
@@ -455,7 +455,7 @@ static void sizes(void)
     for (one = size_rows; one->what != NULL; one++)
         check_at(__FILE__, __LINE__, one->what, holds_size(one));
     CHECK(sizeof(evtchn_replay_position) == 32 && sizeof(evtchn_replay_result) == 16);
-    CHECK(EVTCHN_FIFO_DOMAIN_SIZE == 100 && EVTCHN_FIFO_GUEST_SIZE == 88 && EVTCHN_FIFO_CONTROL_WORDS == 18 && EVTCHN_REPLAY_LINE == 64);
+    CHECK(EVTCHN_FIFO_DOMAIN_SIZE == 100 && EVTCHN_FIFO_GUEST_SIZE == 104 && EVTCHN_FIFO_CONTROL_WORDS == 18 && EVTCHN_REPLAY_LINE == 64);
 }
 
 /* ---- positions that no replay makes ---- */
@@ -625,12 +625,17 @@ static void host_begins(void)
 
 static void host_runs(evtchn_fifo_next next) { evtchn_fifo_trace_domain_run(&trace, &w.domain, w.ledger, ENTRIES, &w.shared, next); }
 
+static void host_clears_mask(uint32_t port)
+{
+    evtchn_fifo_trace_guest_run(&trace, &w.guest, &w.shared, evtchn_fifo_trace_clear_mask(&trace, &w.guest, port));
+}
+
 static void host_serves(void)
 {
     evtchn_fifo_trace_guest_run(&trace, &w.guest, &w.shared, evtchn_fifo_trace_service(&trace, &w.guest));
 }
 
-/* One turn for a port: bind, priority, raise, service, mask, raise, unmask, service, close. */
+/* One turn for a port: bind, priority, raise, service, mask, clear_mask, mask, raise, clear_mask, unmask, service, close. */
 static void host_turns(uint32_t port)
 {
     host_runs(evtchn_fifo_trace_bind(&trace, &w.domain, w.ledger, ENTRIES, port));
@@ -638,7 +643,10 @@ static void host_turns(uint32_t port)
     host_runs(evtchn_fifo_trace_raise(&trace, &w.domain, w.ledger, ENTRIES, port));
     host_serves();
     evtchn_fifo_trace_mask(&trace, &w.shared, port, EVTCHN_FIFO_PAGE_WORDS);
+    host_clears_mask(port);
+    evtchn_fifo_trace_mask(&trace, &w.shared, port, EVTCHN_FIFO_PAGE_WORDS);
     host_runs(evtchn_fifo_trace_raise(&trace, &w.domain, w.ledger, ENTRIES, port));
+    host_clears_mask(port);
     host_runs(evtchn_fifo_trace_unmask(&trace, &w.domain, w.ledger, ENTRIES, port));
     host_serves();
     host_runs(evtchn_fifo_trace_close(&trace, &w.domain, w.ledger, ENTRIES, port));

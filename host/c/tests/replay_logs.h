@@ -18,9 +18,9 @@ typedef struct good_line {
 } good_line;
 
 /*
- * What follows a dropped line is not due in its place, but for the raise of 9: the call that is refused during it is then the raise that
- * starts, and its answer differs. A line's double is not due either; but a second call during a call is refused, and the first access
- * stands in that answer's place.
+ * What follows a dropped line is not due in its place, but for the raise of 9 and the clear_mask of 5: the call that is refused during it
+ * is then one that starts, and its answer differs. A line's double is not due either; but a second call during a call is refused, and the
+ * first access stands in that answer's place.
  */
 static const good_line good_lines[] = {
     {"accesses\t1\n", 0, 1},
@@ -74,6 +74,20 @@ static const good_line good_lines[] = {
     {"G\tanswer\t20\t-\t-\t-\n", 0, 1},
     {"G\tcall\tmask\t1024\t-\t-\n", 0, 1},
     {"G\tanswer\t6\t-\t-\t-\n", 0, 1},
+    {"G\tcall\tclear_mask\t1024\t-\t-\n", 0, 1},
+    {"G\tanswer\t6\t-\t-\t-\n", 0, 1},
+    {"G\tcall\tclear_mask\t9\t-\t-\n", 0, 2},
+    {"G\tread\tw9\t-\t-\tC0000000\n", 0, 1},
+    {"G\tanswer\t35\t-\t-\t-\n", 0, 1},
+    {"G\tcall\tmask\t5\t-\t-\n", 0, 1},
+    {"G\tor\tw5\t-\t40000000\t00000000\n", 0, 1},
+    {"G\tanswer\t0\t-\t-\t-\n", 0, 1},
+    {"G\tcall\tclear_mask\t5\t-\t-\n", 1, 2},
+    {"G\tcall\tservice\t-\t-\t-\n", 0, 1},
+    {"G\tanswer\t15\t-\t-\t-\n", 0, 1},
+    {"G\tread\tw5\t-\t-\t40000000\n", 0, 1},
+    {"G\tcas\tw5\t40000000\t00000000\t40000000\n", 0, 1},
+    {"G\tanswer\t0\t-\t-\t-\n", 0, 1},
     {"X\tcall\traise\t9\t-\t-\n", 0, 2},
     {"X\tor\tw9\t-\t80000000\tC0000000\n", 0, 1},
     {"X\tanswer\t0\t-\t-\t-\n", 0, 1},
@@ -108,7 +122,7 @@ static const good_line good_lines[] = {
     {"G\tanswer\t19\t9\t-\t-\n", 0, 1},
 };
 #define GOOD_LINES (sizeof good_lines / sizeof good_lines[0])
-#define GOOD_COUNT 83u
+#define GOOD_COUNT 97u
 
 /* ---- lines ---- */
 
@@ -139,6 +153,16 @@ static const good_line good_lines[] = {
 #define BEGIN_MASK "G\tcall\tmask\t5\t-\t-\n"
 #define MASKS "G\tor\tw5\t-\t40000000\t00000000\n"
 #define MASKED "G\tanswer\t0\t-\t-\t-\n"
+#define PAGED_MASKED PAGED BEGIN_MASK MASKS MASKED /* 8 */
+#define BOUND_MASKED BOUND BEGIN_MASK MASKS MASKED /* 11 */
+#define BEGIN_CLEAR "G\tcall\tclear_mask\t5\t-\t-\n"
+#define SEES_CLEAR "G\tread\tw5\t-\t-\t00000000\n"
+#define SEES_MASKED "G\tread\tw5\t-\t-\t40000000\n"
+#define CLEARS "G\tcas\tw5\t40000000\t00000000\t40000000\n"
+#define CLEARED MASKED
+#define CALL_UNMASK "G\tanswer\t35\t-\t-\t-\n"
+#define BEGIN_CLEAR_9 "G\tcall\tclear_mask\t9\t-\t-\n"
+#define SEES_CLEAR_9 "G\tread\tw9\t-\t-\t00000000\n"
 #define UNDER_WAY "X\tanswer\t15\t-\t-\t-\n"
 #define SERVING "G\tanswer\t15\t-\t-\t-\n"
 #define NO_ENTRY "X\tanswer\t14\t-\t-\t-\n"
@@ -190,6 +214,12 @@ static const row form_rows[] = {
     {"nine hex digits", PAGED BEGIN_BIND "X\tread\tw5\t-\t-\t000000000\n", 22, 7, "X\tread\tw5\t-\t-\t000000000\n", NULL},
     {"the guest's raise", BOUND "G\tcall\traise\t5\t-\t-\n", 22, 9, "G\tcall\traise\t5\t-\t-\n", NULL},
     {"the hypervisor's service", BOUND "X\tcall\tservice\t-\t-\t-\n", 22, 9, "X\tcall\tservice\t-\t-\t-\n", NULL},
+    {"the hypervisor's clear_mask", BOUND "X\tcall\tclear_mask\t5\t-\t-\n", 22, 9, "X\tcall\tclear_mask\t5\t-\t-\n", NULL},
+    {"a clear_mask without a port", PAGED "G\tcall\tclear_mask\t-\t-\t-\n", 22, 6, "G\tcall\tclear_mask\t-\t-\t-\n", NULL},
+    {"a clear_mask with an argument", PAGED "G\tcall\tclear_mask\t5\t1\t-\n", 22, 6, "G\tcall\tclear_mask\t5\t1\t-\n", NULL},
+    {"a clear_mask of port 05", PAGED "G\tcall\tclear_mask\t05\t-\t-\n", 22, 6, "G\tcall\tclear_mask\t05\t-\t-\n", NULL},
+    {"a call clear", PAGED "G\tcall\tclear\t5\t-\t-\n", 22, 6, "G\tcall\tclear\t5\t-\t-\n", NULL},
+    {"35 with a port", PAGED "G\tanswer\t35\t5\t-\t-\n", 22, 6, "G\tanswer\t35\t5\t-\t-\n", NULL},
     {"a tell", PAGED "G\tcall\ttell\t1024\t-\t-\n", 22, 6, "G\tcall\ttell\t1024\t-\t-\n", NULL},
     {"a side of its own", HEADER "Y\tanswer\t0\t-\t-\t-\n", 22, 2, "Y\tanswer\t0\t-\t-\t-\n", NULL},
     {"a service with a port", PAGED "G\tcall\tservice\t5\t-\t-\n", 22, 6, "G\tcall\tservice\t5\t-\t-\n", NULL},
@@ -285,6 +315,58 @@ static const row mask_rows[] = {
      "G\tor\tw5\t-\t40000000\tA0000000\n"},
     {NULL, NULL, 0, 0, NULL, NULL}};
 
+static const row clear_mask_rows[] = {
+    {"a clear_mask of a port that is not masked", PAGED BEGIN_CLEAR SEES_CLEAR CLEARED, 0, 8, "", ""},
+    {"a clear_mask", PAGED_MASKED BEGIN_CLEAR SEES_MASKED CLEARS CLEARED, 0, 12, "", ""},
+    {"its answer due at the end", PAGED_MASKED BEGIN_CLEAR SEES_MASKED CLEARS, 1, 12, "", CLEARED},
+    {"under way at the end", PAGED BEGIN_CLEAR, 0, 6, "", ""},
+    {"under way at the end, before its cas", PAGED_MASKED BEGIN_CLEAR SEES_MASKED, 0, 10, "", ""},
+    {"35 by its read", BOUND_MASKED BEGIN_RAISE "X\tor\tw5\t-\t80000000\t40000000\n" DONE BEGIN_CLEAR "G\tread\tw5\t-\t-\tC0000000\n" CALL_UNMASK,
+     0, 17, "", ""},
+    {"35 by its cas", BOUND_MASKED BEGIN_CLEAR SEES_MASKED BEGIN_RAISE "X\tor\tw5\t-\t80000000\t40000000\n" DONE
+     "G\tcas\tw5\t40000000\t00000000\tC0000000\n" CALL_UNMASK, 0, 18, "", ""},
+    {"0 for its 35", BOUND_MASKED BEGIN_CLEAR SEES_MASKED BEGIN_RAISE "X\tor\tw5\t-\t80000000\t40000000\n" DONE
+     "G\tcas\tw5\t40000000\t00000000\tC0000000\n" CLEARED, 1, 18, CLEARED, CALL_UNMASK},
+    {"its cas before its read", PAGED_MASKED BEGIN_CLEAR CLEARS, 1, 10, CLEARS, SEES_MASKED},
+    {"an answer for its cas", PAGED_MASKED BEGIN_CLEAR SEES_MASKED CLEARED, 1, 11, CLEARED, ""},
+    {"an and for its cas", PAGED_MASKED BEGIN_CLEAR SEES_MASKED "G\tand\tw5\t-\tBFFFFFFF\t40000000\n", 1, 11,
+     "G\tand\tw5\t-\tBFFFFFFF\t40000000\n", CLEARS},
+    {"its read, by the other side", PAGED BEGIN_CLEAR READ_5, 1, 7, READ_5, ""},
+    {"a clear_mask of port 0", PAGED "G\tcall\tclear_mask\t0\t-\t-\nG\tanswer\t3\t-\t-\t-\n", 0, 7, "", ""},
+    {"a clear_mask outside the array", PAGED "G\tcall\tclear_mask\t1024\t-\t-\nG\tanswer\t6\t-\t-\t-\n", 0, 7, "", ""},
+    {"a clear_mask with no array", GIVEN BEGIN_CLEAR SEES_CLEAR, 1, 5, SEES_CLEAR, "G\tanswer\t6\t-\t-\t-\n"},
+    {"15 of a second clear_mask", PAGED BEGIN_CLEAR BEGIN_CLEAR_9 SERVING SEES_CLEAR CLEARED, 0, 10, "", ""},
+    {"15 of a service during a clear_mask", PAGED BEGIN_CLEAR BEGIN_SERVICE SERVING SEES_CLEAR CLEARED, 0, 10, "", ""},
+    {"an access where that 15 is due", PAGED BEGIN_CLEAR BEGIN_SERVICE G0_IDLE, 1, 8, G0_IDLE, SERVING},
+    {"a mask in a clear_mask", PAGED_MASKED BEGIN_CLEAR SEES_MASKED BEGIN_MASK "G\tor\tw5\t-\t40000000\t40000000\n" MASKED CLEARS CLEARED, 0, 15,
+     "", ""},
+    {"a clear_mask in a service", RAISED BEGIN_SERVICE G0 BEGIN_CLEAR_9 SEES_CLEAR_9 CLEARED G1 G2 G3 G4 "G\tanswer\t19\t5\t-\t-\n", 0, 24,
+     "", ""},
+    {"a clear_mask in a service, whose access comes first", RAISED BEGIN_SERVICE G0 BEGIN_CLEAR_9 G1, 1, 18, G1, SEES_CLEAR_9},
+    {NULL, NULL, 0, 0, NULL, NULL}};
+
+/* port 9 behind port 5, which is masked between R3 and the first cas */
+#define BEGIN_9 RAISED "X\tcall\tbind\t9\t-\t-\nX\tread\tw9\t-\t-\t00000000\n" DONE "X\tcall\traise\t9\t-\t-\n" /* 18 */
+#define READ_TAIL "X\tor\tw9\t-\t80000000\t00000000\nX\tor\tw9\t-\t20000000\t80000000\nX\tread\tw5\t-\t-\tA0000000\n"
+#define FIRST_LOST BEGIN_9 READ_TAIL BEGIN_MASK "G\tor\tw5\t-\t40000000\tA0000000\n" MASKED "X\tcas\tw5\tA0000000\tA0000009\tE0000000\n" /* 25 */
+#define SETS_BUSY "X\tor\tw5\t-\t10000000\tE0000000\n"
+#define LINKS "X\tcas\tw5\tF0000000\tE0000009\tF0000000\n"
+#define SECOND_CAS "X\tcas\tw5\tE0000000\tE0000009\tE0000000\n"
+
+static const row busy_rows[] = {
+    {"a link with BUSY", FIRST_LOST SETS_BUSY LINKS DONE, 0, 28, "", ""},
+    {"a second cas without BUSY", FIRST_LOST SECOND_CAS DONE, 1, 26, SECOND_CAS, SETS_BUSY},
+    {"a second cas that leaves BUSY", FIRST_LOST SETS_BUSY "X\tcas\tw5\tF0000000\tF0000009\tF0000000\n", 1, 27,
+     "X\tcas\tw5\tF0000000\tF0000009\tF0000000\n", LINKS},
+    {"35 while BUSY is set", FIRST_LOST SETS_BUSY BEGIN_CLEAR "G\tread\tw5\t-\t-\tF0000000\n" CALL_UNMASK LINKS DONE, 0, 31, "", ""},
+    {"LINKED lost while BUSY is set", FIRST_LOST SETS_BUSY BEGIN_SERVICE G0 G1 "G\tand\tw5\t-\tDFFE0000\tF0000000\n"
+     "X\tcas\tw5\tF0000000\tE0000009\tD0000000\nX\tand\tw5\t-\tEFFFFFFF\tD0000000\nX\tstore\th7\t-\t00000009\t-\n" R6 WANTED
+     "G\tread\tw5\t-\t-\tC0000000\nG\tanswer\t21\t5\t-\t-\n", 0, 37, "", ""},
+    {"HEAD before BUSY is cleared", FIRST_LOST SETS_BUSY BEGIN_SERVICE G0 G1 "G\tand\tw5\t-\tDFFE0000\tF0000000\n"
+     "X\tcas\tw5\tF0000000\tE0000009\tD0000000\nX\tstore\th7\t-\t00000009\t-\n", 1, 32, "X\tstore\th7\t-\t00000009\t-\n",
+     "X\tand\tw5\t-\tEFFFFFFF\tD0000000\n"},
+    {NULL, NULL, 0, 0, NULL, NULL}};
+
 static const row call_rows[] = {
     {"15 during a call", BOUND BEGIN_RAISE BEGIN_BIND UNDER_WAY R1 R2 R5 R6 WANTED, 0, 16, "", ""},
     {"15 due at the end", BOUND BEGIN_RAISE BEGIN_BIND, 1, 11, "", UNDER_WAY},
@@ -309,7 +391,7 @@ static const row call_rows[] = {
     {"a port that the ledger has no entry of", BOUND "X\tcall\tbind\t1501\t-\t-\n" NO_ENTRY, 0, 10, "", ""},
     {NULL, NULL, 0, 0, NULL, NULL}};
 
-static const row *const tables[] = {header_rows, form_rows, long_rows, difference_rows, end_rows, mask_rows, call_rows};
+static const row *const tables[] = {header_rows, form_rows, long_rows, difference_rows, end_rows, mask_rows, clear_mask_rows, busy_rows, call_rows};
 #define TABLES (sizeof tables / sizeof tables[0])
 
 /* ---- sizes lent ---- */
@@ -340,6 +422,7 @@ static const size_row size_rows[] = {
     {"no words, an expand not of the form", LEDGER_BYTES, 0, GIVEN "X\tcall\texpand_array\t-\t02\t-\n", 22, 4},
     {"no words, an expand without its newline", LEDGER_BYTES, 0, GIVEN "X\tcall\texpand_array\t-\t2\t-", 22, 4},
     {"no words, bind and mask", LEDGER_BYTES, 0, GIVEN BEGIN_BIND DONE BEGIN_MASK "G\tanswer\t6\t-\t-\t-\n", 0, 7},
+    {"no words, a clear_mask", LEDGER_BYTES, 0, GIVEN BEGIN_CLEAR "G\tanswer\t6\t-\t-\t-\n", 0, 5},
     {"no words, a service", LEDGER_BYTES, 0, GIVEN BEGIN_SERVICE G0_IDLE IDLE, 0, 6},
     {"no ledger", 0, WORDS, PAGED BEGIN_BIND NO_ENTRY, 0, 7},
     {"no ledger, an access for its 14", 0, WORDS, BOUND, 1, 7},

@@ -44,6 +44,8 @@ static void call_lines(void)
     CHECK(reads(evtchn_fifo_line_unmask(line, 0xFFFFFFFFu), "X\tcall\tunmask\t4294967295\t-\t-\n"));
     CHECK(reads(evtchn_fifo_line_service(line), "G\tcall\tservice\t-\t-\t-\n"));
     CHECK(reads(evtchn_fifo_line_mask(line, 12), "G\tcall\tmask\t12\t-\t-\n"));
+    CHECK(reads(evtchn_fifo_line_clear_mask(line, 12), "G\tcall\tclear_mask\t12\t-\t-\n"));
+    CHECK(reads(evtchn_fifo_line_clear_mask(line, 0xFFFFFFFFu), "G\tcall\tclear_mask\t4294967295\t-\t-\n"));
 }
 
 static size_t access_line(char side, unsigned kind, unsigned place, uint32_t index, uint32_t old, uint32_t value, uint32_t seen)
@@ -85,6 +87,7 @@ static void answer_lines(void)
     CHECK(reads(answer_line('G', EVTCHN_FIFO_NOTHING_READY, 5), "G\tanswer\t20\t-\t-\t-\n"));
     CHECK(reads(answer_line('G', EVTCHN_FIFO_TAKEN, 131071), "G\tanswer\t21\t131071\t-\t-\n"));
     CHECK(reads(answer_line('G', EVTCHN_FIFO_TAKEN, 0xFFFFFFFFu), "G\tanswer\t21\t4294967295\t-\t-\n"));
+    CHECK(reads(answer_line('G', EVTCHN_FIFO_CALL_UNMASK, 5), "G\tanswer\t35\t-\t-\t-\n"));
 }
 
 /* every code: an access's line is world.h's, which is written by other means; an answer has none, and a code of neither */
@@ -201,11 +204,13 @@ static evtchn_fifo_next run(evtchn_fifo_next next) { return evtchn_fifo_trace_do
 static evtchn_fifo_next bind_start(uint64_t port) { return evtchn_fifo_trace_bind(&trace, &w.domain, w.ledger, WORLD_ENTRIES, port); }
 static evtchn_fifo_next raise_start(uint64_t port) { return evtchn_fifo_trace_raise(&trace, &w.domain, w.ledger, WORLD_ENTRIES, port); }
 static evtchn_fifo_next service_start(void) { return evtchn_fifo_trace_service(&trace, &w.guest); }
+static evtchn_fifo_next clear_mask_start(uint64_t port) { return evtchn_fifo_trace_clear_mask(&trace, &w.guest, port); }
 static uint32_t bind(uint64_t port) { return run(bind_start(port)).code; }
 static uint32_t close(uint64_t port) { return run(evtchn_fifo_trace_close(&trace, &w.domain, w.ledger, WORLD_ENTRIES, port)).code; }
 static uint32_t raise(uint64_t port) { return run(raise_start(port)).code; }
 static uint32_t unmask(uint64_t port) { return run(evtchn_fifo_trace_unmask(&trace, &w.domain, w.ledger, WORLD_ENTRIES, port)).code; }
 static uint32_t service(void) { return evtchn_fifo_trace_guest_run(&trace, &w.guest, &w.shared, service_start()).code; }
+static uint32_t clear_mask(uint64_t port) { return evtchn_fifo_trace_guest_run(&trace, &w.guest, &w.shared, clear_mask_start(port)).code; }
 static uint32_t mask(uint64_t port) { return evtchn_fifo_trace_mask(&trace, &w.shared, port, EVTCHN_FIFO_PAGE_WORDS).code; }
 
 static uint32_t set_priority(uint64_t port, uint64_t priority)
@@ -332,7 +337,8 @@ static void c9(void)
 
 static void c12(void)
 {
-    static const uint32_t seen[] = {0x00000000u, 0x80000000u, 0xA0000000u, 0xE0000000u, 0xA0000000u, 0xE0000000u, 0xA0000000u};
+    static const uint32_t seen[] = {0x00000000u, 0x80000000u, 0xA0000000u, 0xE0000000u, 0xA0000000u,
+                                    0xF0000000u, 0xB0000000u, 0xF0000000u, 0xB0000000u, 0xB0000000u};
     evtchn_fifo_next next;
     size_t k;
     begin_with(five_and_nine, 2, 0);
@@ -421,6 +427,8 @@ static void refusals_of_starts(void)
     CHECK(raise(1500) == 6 && wrote("X\tcall\traise\t1500\t-\t-\nX\tanswer\t6\t-\t-\t-\n"));
     CHECK(mask(131072) == 3 && wrote("G\tcall\tmask\t131072\t-\t-\nG\tanswer\t3\t-\t-\t-\n"));
     CHECK(mask(1024) == 6 && wrote("G\tcall\tmask\t1024\t-\t-\nG\tanswer\t6\t-\t-\t-\n"));
+    CHECK(clear_mask(0) == 3 && wrote("G\tcall\tclear_mask\t0\t-\t-\nG\tanswer\t3\t-\t-\t-\n"));
+    CHECK(clear_mask(1024) == 6 && wrote("G\tcall\tclear_mask\t1024\t-\t-\nG\tanswer\t6\t-\t-\t-\n"));
 }
 
 /* larger than a log's numbers: refused as 2^32 - 1 is */
@@ -429,6 +437,7 @@ static void wide_numbers(void)
     const uint64_t wide = UINT64_C(0x100000005);
     begin_with(five_and_nine, 1, 0);
     CHECK(raise(wide) == 3 && wrote("X\tcall\traise\t4294967295\t-\t-\nX\tanswer\t3\t-\t-\t-\n"));
+    CHECK(clear_mask(wide) == 3 && wrote("G\tcall\tclear_mask\t4294967295\t-\t-\nG\tanswer\t3\t-\t-\t-\n"));
     CHECK(raise(0xFFFFFFFFu) == 3 && wrote("X\tcall\traise\t4294967295\t-\t-\nX\tanswer\t3\t-\t-\t-\n"));
     CHECK(set_priority(5, wide) == 8 && wrote("X\tcall\tset_priority\t5\t4294967295\t-\nX\tanswer\t8\t-\t-\t-\n"));
     CHECK(evtchn_fifo_trace_expand_array(&trace, &w.domain, wide, 1024).code == 11 && wrote("X\tcall\texpand_array\t-\t4294967295\t-\nX\tanswer\t11\t-\t-\t-\n"));
@@ -453,6 +462,18 @@ static void refusals_under_way(void)
     close(5);
     recorded.used = 0;
     CHECK(bind(5) == 7 && wrote("X\tcall\tbind\t5\t-\t-\nX\tread\tw5\t-\t-\t20000000\nX\tanswer\t7\t-\t-\t-\n"));
+}
+
+/* a service and a second clear_mask have 15 while one is under way, which goes on */
+static void refusals_in_a_clear_mask(void)
+{
+    evtchn_fifo_next next;
+    begin_with(five_and_nine, 1, 0);
+    next = clear_mask_start(5);
+    CHECK(service() == 15 && clear_mask(9) == 15 && wrote("G\tcall\tclear_mask\t5\t-\t-\nG\tcall\tservice\t-\t-\t-\nG\tanswer\t15\t-\t-\t-\n"
+                                                          "G\tcall\tclear_mask\t9\t-\t-\nG\tanswer\t15\t-\t-\t-\n"));
+    CHECK(evtchn_fifo_trace_guest_run(&trace, &w.guest, &w.shared, next).code == 0);
+    CHECK(wrote("G\tread\tw5\t-\t-\t00000000\nG\tanswer\t0\t-\t-\t-\n"));
 }
 
 /* a reply with no call under way shows, as an access that none named */
@@ -487,8 +508,11 @@ static void moments(void)
     guest_step(&served);
     CHECK(mask(5) == 0 && mask(1024) == 6 && wrote_moments("(call)(swap)(call or answer)(call answer)"));
     CHECK(evtchn_fifo_trace_guest_run(&trace, &w.guest, &w.shared, served).code == 21 && wrote_moments("(read)(and)(read answer)"));
+    CHECK(clear_mask(5) == 35 && wrote_moments("(call)(read answer)"));
     CHECK(service() == 20 && wrote_moments("(call)(swap answer)"));
     CHECK(close(5) == 0 && wrote_moments("(call)(and answer)"));
+    CHECK(clear_mask(5) == 0 && wrote_moments("(call)(read)(cas answer)"));
+    CHECK(clear_mask(1024) == 6 && wrote_moments("(call answer)"));
     CHECK(run(answer).code == 0 && wrote_moments(""));
     CHECK(recorded.outside == 0);
 }
@@ -513,6 +537,39 @@ static void mask_in_a_service(void)
                 "G\tanswer\t0\t-\t-\t-\n"
                 "G\tread\tw5\t-\t-\tC0000000\n"
                 "G\tanswer\t21\t5\t-\t-\n"));
+}
+
+/* A clear_mask while a service is under way: its accesses come first, and the service goes on after its answer. */
+static void clear_mask_in_a_service(void)
+{
+    evtchn_fifo_next served, cleared;
+    begin_with(five_and_nine, 1, 1);
+    served = service_start();
+    guest_step(&served);
+    CHECK(mask(9) == 0);
+    cleared = clear_mask_start(9);
+    guest_step(&cleared);
+    CHECK(mask(9) == 0);
+    guest_step(&cleared);
+    CHECK(cleared.code == 0 && cleared.value == 2);
+    CHECK(evtchn_fifo_trace_guest_run(&trace, &w.guest, &w.shared, served).code == 19);
+    CHECK(wrote("G\tcall\tservice\t-\t-\t-\n"
+                "G\tswap\tready\t-\t00000000\t00000080\n"
+                "G\tcall\tmask\t9\t-\t-\n"
+                "G\tor\tw9\t-\t40000000\t00000000\n"
+                "G\tanswer\t0\t-\t-\t-\n"
+                "G\tcall\tclear_mask\t9\t-\t-\n"
+                "G\tread\tw9\t-\t-\t40000000\n"
+                "G\tcall\tmask\t9\t-\t-\n"
+                "G\tor\tw9\t-\t40000000\t40000000\n"
+                "G\tanswer\t0\t-\t-\t-\n"
+                "G\tcas\tw9\t40000000\t00000000\t40000000\n"
+                "G\tanswer\t0\t-\t-\t-\n"
+                "G\tread\th7\t-\t-\t00000005\n"
+                "G\tand\tw5\t-\tDFFE0000\tA0000000\n"
+                "G\tread\tw5\t-\t-\t80000000\n"
+                "G\tand\tw5\t-\t7FFFFFFF\t80000000\n"
+                "G\tanswer\t19\t5\t-\t-\n"));
 }
 
 /* ---- what has no line ---- */
@@ -546,7 +603,11 @@ static void unmapped(void)
     CHECK(!evtchn_fifo_trace_domain_step(&trace, &w.domain, w.ledger, WORLD_ENTRIES, &w.shared, &next, &seen) && seen == 7);
     next = evtchn_fifo_trace_mask(&trace, &w.shared, 5, EVTCHN_FIFO_PAGE_WORDS);
     CHECK(next.code == 0x120 && next.value == 0x40000000u && wrote("") && w.page[5] == 0);
+    next = evtchn_fifo_trace_guest_run(&trace, &w.guest, &w.shared, clear_mask_start(5));
+    CHECK(next.code == 0x100 && next.index == 5 && wrote("G\tcall\tclear_mask\t5\t-\t-\n"));
     w.shared.words = EVTCHN_FIFO_PAGE_WORDS;
+    CHECK(evtchn_fifo_trace_guest_run(&trace, &w.guest, &w.shared, evtchn_fifo_guest_service_due(&w.guest)).code == 0);
+    CHECK(wrote("G\tread\tw5\t-\t-\t00000000\nG\tanswer\t0\t-\t-\t-\n"));
     CHECK(run(evtchn_fifo_domain_due(&w.domain)).code == 1);
     CHECK(wrote("X\tor\tw5\t-\t80000000\t00000000\nX\tor\tw5\t-\t20000000\t80000000\nX\tstore\th7\t-\t00000005\t-\nX\tor\tready\t-\t00000080\t00000000\nX\tanswer\t1\t-\t-\t-\n"));
 }
@@ -570,6 +631,9 @@ static void without_trace(void)
     CHECK(next.code == 19 && next.index == 5 && next.value == 5);
     next = evtchn_fifo_trace_mask(NULL, &w.shared, 5, EVTCHN_FIFO_PAGE_WORDS);
     CHECK(next.code == 0 && next.value == 1 && w.page[5] == 0x40000000u);
+    next = evtchn_fifo_trace_guest_run(NULL, &w.guest, &w.shared, evtchn_fifo_trace_clear_mask(NULL, &w.guest, 5));
+    CHECK(next.code == 0 && next.value == 2 && w.page[5] == 0);
+    evtchn_fifo_trace_mask(NULL, &w.shared, 5, EVTCHN_FIFO_PAGE_WORDS);
     next = evtchn_fifo_trace_unmask(NULL, &w.domain, w.ledger, WORLD_ENTRIES, 5);
     CHECK(evtchn_fifo_trace_domain_run(NULL, &w.domain, w.ledger, WORLD_ENTRIES, &w.shared, next).code == 0 && w.page[5] == 0);
     next = evtchn_fifo_trace_close(NULL, &w.domain, w.ledger, WORLD_ENTRIES, 5);
@@ -610,9 +674,11 @@ int main(int count, char **words)
     refusals_of_starts();
     wide_numbers();
     refusals_under_way();
+    refusals_in_a_clear_mask();
     replies_to_none();
     moments();
     mask_in_a_service();
+    clear_mask_in_a_service();
     short_ledger();
     unmapped();
     without_trace();

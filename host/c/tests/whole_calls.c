@@ -1,7 +1,7 @@
 /*
- * Whole calls of host/c/bench/in_place.c, the peer that does not step: C1 to C12 as far as they are raises, unmasks and services; and
- * random histories, honest and hostile, on two copies of a domain and its guest: one by the library that the program is linked with,
- * one in place. After each call its answer and all words of both copies are the same, but for those of the call under way.
+ * Whole calls of host/c/bench/in_place.c, the peer that does not step: C1 to C12 as far as they are raises, unmasks and services, and
+ * clear_mask; and random histories, honest and hostile, on two copies of a domain and its guest: one by the library that the program is
+ * linked with, one in place. After each call its answer and all words of both copies are the same, but for those of the call under way.
  * Each branch of the rules must be met so many times.
  */
 #include <string.h>
@@ -16,7 +16,7 @@ static void between(void);
 #include "check.h"
 #include "words.h"
 
-#define MOST_ACCESSES 9u
+#define MOST_ACCESSES 12u
 
 /* ---- C1 to C12 ---- */
 
@@ -30,6 +30,7 @@ static struct {
 static evtchn_fifo_next raise(uint32_t port) { return in_place_raise(&w.domain, w.ledger, WORLD_ENTRIES, &w.shared, port); }
 static evtchn_fifo_next unmask(uint32_t port) { return in_place_unmask(&w.domain, w.ledger, WORLD_ENTRIES, &w.shared, port); }
 static evtchn_fifo_next service(void) { return in_place_service(&w.guest, &w.shared); }
+static evtchn_fifo_next clear_mask(uint32_t port) { return in_place_clear_mask(&w.guest, &w.shared, port); }
 
 static int answers(evtchn_fifo_next next, uint32_t code, uint32_t index, uint32_t count)
 {
@@ -99,9 +100,30 @@ static void c12(void)
     begin();
     raise(5);
     script.made = 0;
-    script.word[3] = script.word[5] = 0xE0000000u;
-    script.word[4] = script.word[6] = 0xA0000000u;
-    CHECK(answers(raise(9), 2, 0, 7) && world_tail(&w, 7) == 9 && w.page[5] == 0xA0000000u);
+    script.word[3] = 0xE0000000u;
+    script.word[4] = 0xA0000000u;
+    script.word[5] = script.word[7] = 0xF0000000u;
+    script.word[6] = script.word[8] = 0xB0000000u;
+    CHECK(answers(raise(9), 2, 0, 10) && world_tail(&w, 7) == 9 && w.page[5] == 0xA0000000u);
+}
+
+/* the words of the port at its read and at its cas (0: as it was read), the answer, and the word left */
+static void clear_mask_leaves(uint32_t read, uint32_t changed, uint32_t code, uint32_t count, uint32_t left)
+{
+    begin();
+    w.page[5] = read;
+    script.word[1] = changed;
+    script.made = 0;
+    CHECK(answers(clear_mask(5), code, 0, count) && w.page[5] == left);
+}
+
+static void clear_masks(void)
+{
+    clear_mask_leaves(0xB0000009u, 0, 0, 1, 0xB0000009u);
+    clear_mask_leaves(0xC0000000u, 0, 35, 1, 0xC0000000u);
+    clear_mask_leaves(0x70000000u, 0, 35, 1, 0x70000000u);
+    clear_mask_leaves(0x6FFE0009u, 0, 0, 2, 0x2FFE0009u);
+    clear_mask_leaves(0x60000000u, 0xE0000000u, 35, 2, 0xE0000000u);
 }
 
 static void cases(void)
@@ -112,6 +134,7 @@ static void cases(void)
     c10();
     c11();
     c12();
+    clear_masks();
 }
 
 /* ---- two copies ---- */
@@ -171,12 +194,13 @@ static struct {
     copy *copy; /* NULL in C1 to C12 */
     enum conduct conduct;
     uint32_t port; /* the call's, 0 of a service */
+    int is_clear_mask;
     uint64_t dice; /* of the call, the same for both copies */
 } other;
 
 static uint32_t any_word(void)
 {
-    uint32_t flags = random_below(&other.dice, 8) << 29;
+    uint32_t flags = random_below(&other.dice, 16) << 28;
     switch (random_below(&other.dice, 4)) {
     case 0: return flags;
     case 1: return random_word(&other.dice);
@@ -184,15 +208,18 @@ static uint32_t any_word(void)
     }
 }
 
-/* the word that R3 and R4 look at: MASKED changes and LINKED stays, or it is unlinked */
+/*
+ * The word that R3 and R4 look at: MASKED changes and LINKED stays, or it is unlinked. During a clear_mask it is the port's, whose BUSY
+ * changes.
+ */
 static void write_at_the_tail(copy *c)
 {
-    uint32_t tail = tail_of(c, c->ledger[other.port] % EVTCHN_FIFO_QUEUES);
+    uint32_t tail = other.is_clear_mask ? other.port : tail_of(c, c->ledger[other.port] % EVTCHN_FIFO_QUEUES);
     switch (random_below(&other.dice, 8)) {
     case 0: c->words[tail] &= 0xDFFE0000u; break;
     case 1:
     case 2: break;
-    default: c->words[tail] ^= 0x40000000u; break;
+    default: c->words[tail] ^= other.is_clear_mask ? 0x10000000u : 0x40000000u; break;
     }
 }
 
@@ -223,19 +250,24 @@ static void between(void)
 
 /* what a call did, so many times */
 enum branch {
-    R1_ENDS, R2_ENDS, R2_CLEARS_TAIL, R3_UNLINKED, R4_FIRST, R4_SECOND, R4_THIRD, R4_FOURTH, R4_UNLINKED, R4_ABANDONS,
+    R1_ENDS, R2_ENDS, R2_CLEARS_TAIL, R3_UNLINKED, R4_FIRST, R4_SECOND, R4_THIRD, R4_FOURTH, R4_FIFTH, R4_UNLINKED, BUSY_UNLINKED,
+    R4_SECOND_UNLINKED, R4_THIRD_UNLINKED, R4_FOURTH_UNLINKED, R4_FIFTH_UNLINKED, R4_ABANDONS,
     R5_AT_ONCE, R6_UPCALL, R6_NO_UPCALL, U1_ENDS, U1_GOES_ON,
     G0_IDLE, G1_READS, G1_SKIPPED, G1_BAD, H_BAD, G2_NO_HEAD, G2_HEAD, G3_TAKEN, G4_HANDED_OVER, G4_TAKEN, SERVICE_UNDER_WAY,
+    CLEARED_ALREADY, CLEARED, NOT_CLEARED, CLEAR_NOT_TAKEN, CLEAR_REFUSED, CLEAR_UNDER_WAY, CLEAR_IN_SERVICE,
+    SERVICE_IN_CLEAR,
     UNDER_WAY, NOT_GIVEN, BAD_PORT, NO_ENTRY, NOT_BOUND, OUTSIDE, BY_LOOP,
     BRANCHES
 };
 
 static const char *const branch_names[BRANCHES] = {
     "R1 ends", "R2 ends", "R2 clears a tail", "R3 finds the tail unlinked", "the first cas is taken", "the second", "the third",
-    "the fourth", "a cas finds the tail unlinked", "the link is abandoned", "R5 without R3", "R6 wants an upcall", "R6 wants none",
+    "the fourth", "the fifth", "the first finds the tail unlinked", "the or of BUSY finds it unlinked", "the second cas does",
+    "the third does", "the fourth does", "the fifth does", "the link is abandoned", "R5 without R3", "R6 wants an upcall", "R6 wants none",
     "U1 ends", "U1 goes on", "G0 finds nothing", "G1", "a head without G1", "18 by HEAD", "18 by a head", "G2 leaves no head",
-    "G2 leaves a head", "G3 takes", "G4 hands over", "G4 takes", "15 of a service", "15", "10", "3", "14", "4", "6",
-    "a run loop of the header"};
+    "G2 leaves a head", "G3 takes", "G4 hands over", "G4 takes", "15 of a service", "a clear_mask of an unmasked port",
+    "a clear_mask's cas is taken", "35 by its read", "35 by its cas", "3 or 6 of a clear_mask", "15 of a clear_mask",
+    "a clear_mask during a service", "15 of a service during a clear_mask", "15", "10", "3", "14", "4", "6", "a run loop of the header"};
 static uint32_t met[BRANCHES];
 
 /* the accesses of a call */
@@ -251,8 +283,16 @@ static uint32_t kinds(uint32_t code)
     return count;
 }
 
-/* codes that kinds() counts: R3 reads, R4 is a cas, R5 stores, G1 reads HEAD, G2 and G4 are an and */
-enum { READ_WORD = 0x100, READ_HEAD = 0x102, STORE_HEAD = 0x112, AND_WORD = 0x130, CAS_WORD = 0x150 };
+/* codes that kinds() counts: R3 reads, R4 is a cas, R5 stores, G1 reads HEAD, G2 and G4 are an and, R1, R2 and BUSY's an or */
+enum { READ_WORD = 0x100, READ_HEAD = 0x102, STORE_HEAD = 0x112, OR_WORD = 0x120, AND_WORD = 0x130, CAS_WORD = 0x150 };
+
+/* where the last word seen of a tail lacked LINKED, after so many cas: a raise with BUSY has three ors, an unmask two */
+static enum branch unlinked_at(uint32_t tries, int is_unmask)
+{
+    if (tries > 1)
+        return R4_SECOND_UNLINKED + (tries - 2);
+    return kinds(OR_WORD) == (is_unmask ? 2 : 3) ? BUSY_UNLINKED : R4_UNLINKED;
+}
 
 static void meet_link(evtchn_fifo_next next, int is_unmask)
 {
@@ -264,7 +304,7 @@ static void meet_link(evtchn_fifo_next next, int is_unmask)
     met[R2_ENDS] += named.count == 2;
     met[R4_ABANDONS] += next.code == EVTCHN_FIFO_LINK_ABANDONED;
     if (tries > 0 && next.code != EVTCHN_FIFO_LINK_ABANDONED)
-        met[stored ? R4_UNLINKED : R4_FIRST + tries - 1]++;
+        met[stored ? unlinked_at(tries, is_unmask) : R4_FIRST + tries - 1]++;
     if (stored) {
         met[R3_UNLINKED] += tries == 0 && kinds(READ_WORD) > 0;
         met[R5_AT_ONCE] += kinds(READ_WORD) == 0;
@@ -296,6 +336,16 @@ static void meet_service(evtchn_fifo_next next)
         met[next.code == EVTCHN_FIFO_HANDED_OVER ? G4_HANDED_OVER : G4_TAKEN]++;
 }
 
+static void meet_clear_mask(evtchn_fifo_next next)
+{
+    if (next.value == 0)
+        met[CLEAR_REFUSED]++;
+    else if (next.code == EVTCHN_FIFO_DONE)
+        met[next.value == 1 ? CLEARED_ALREADY : CLEARED]++;
+    else
+        met[next.value == 1 ? NOT_CLEARED : CLEAR_NOT_TAKEN]++;
+}
+
 static void meet_refusal(evtchn_fifo_next next)
 {
     met[UNDER_WAY] += next.code == EVTCHN_FIFO_CALL_UNDER_WAY;
@@ -308,7 +358,7 @@ static void meet_refusal(evtchn_fifo_next next)
 
 /* ---- one call on each copy ---- */
 
-enum kind { RAISE, UNMASK, SERVICE };
+enum kind { RAISE, UNMASK, SERVICE, CLEAR_MASK };
 
 typedef struct whole_call {
     enum kind kind;
@@ -316,18 +366,21 @@ typedef struct whole_call {
     size_t entries;
 } whole_call;
 
+static int is_guests(const whole_call *call) { return call->kind == SERVICE || call->kind == CLEAR_MASK; }
+
 static evtchn_fifo_next start(copy *c, const whole_call *call)
 {
     switch (call->kind) {
     case RAISE: return evtchn_fifo_domain_raise(&c->domain, c->ledger, call->entries, call->port);
     case UNMASK: return evtchn_fifo_domain_unmask(&c->domain, c->ledger, call->entries, call->port);
-    default: return evtchn_fifo_guest_service(&c->guest);
+    case SERVICE: return evtchn_fifo_guest_service(&c->guest);
+    default: return evtchn_fifo_guest_clear_mask(&c->guest, call->port);
     }
 }
 
 static evtchn_fifo_next run(copy *c, const whole_call *call, evtchn_fifo_next next)
 {
-    if (call->kind == SERVICE)
+    if (is_guests(call))
         return evtchn_fifo_guest_run(&c->guest, &c->shared, next);
     return evtchn_fifo_domain_run(&c->domain, c->ledger, call->entries, &c->shared, next);
 }
@@ -342,8 +395,8 @@ static evtchn_fifo_next step(copy *c, const whole_call *call, evtchn_fifo_next n
         between();
         if (!evtchn_fifo_perform(&c->shared, next, &seen))
             break;
-        next = call->kind == SERVICE ? evtchn_fifo_guest_service_reply(&c->guest, seen)
-                                     : evtchn_fifo_domain_reply(&c->domain, c->ledger, call->entries, seen);
+        next = is_guests(call) ? evtchn_fifo_guest_service_reply(&c->guest, seen)
+                               : evtchn_fifo_domain_reply(&c->domain, c->ledger, call->entries, seen);
     }
     return next;
 }
@@ -353,7 +406,8 @@ static evtchn_fifo_next in_place(copy *c, const whole_call *call)
     switch (call->kind) {
     case RAISE: return in_place_raise(&c->domain, c->ledger, call->entries, &c->shared, call->port);
     case UNMASK: return in_place_unmask(&c->domain, c->ledger, call->entries, &c->shared, call->port);
-    default: return in_place_service(&c->guest, &c->shared);
+    case SERVICE: return in_place_service(&c->guest, &c->shared);
+    default: return in_place_clear_mask(&c->guest, &c->shared, call->port);
     }
 }
 
@@ -362,6 +416,7 @@ static void set_other(copy *c, enum conduct conduct, const whole_call *call, uin
     other.copy = c;
     other.conduct = conduct;
     other.port = call->kind != SERVICE && call->port < WORDS ? (uint32_t)call->port : 0;
+    other.is_clear_mask = call->kind == CLEAR_MASK;
     other.dice = seed;
 }
 
@@ -372,7 +427,9 @@ static int is_same(evtchn_fifo_next a, evtchn_fifo_next b)
 
 static void meet(const whole_call *call, evtchn_fifo_next next)
 {
-    if (next.value == 0)
+    if (call->kind == CLEAR_MASK)
+        meet_clear_mask(next);
+    else if (next.value == 0)
         meet_refusal(next);
     else if (call->kind == SERVICE)
         meet_service(next);
@@ -389,11 +446,13 @@ static uint32_t cleared_tails(const uint8_t *before)
     return count;
 }
 
+static uint64_t some_seed(void) { return ((uint64_t)random_word(&dice) << 32 | random_word(&dice)) | 1; }
+
 /* whether a call gives and leaves the same on both copies */
 static int is_same_call(const whole_call *call, enum conduct conduct)
 {
     evtchn_fifo_domain before = stepped.domain;
-    uint64_t seed = ((uint64_t)random_word(&dice) << 32 | random_word(&dice)) | 1;
+    uint64_t seed = some_seed();
     evtchn_fifo_next by_library, by_peer;
     set_other(&stepped, conduct, call, seed);
     by_library = start(&stepped, call);
@@ -410,21 +469,48 @@ static int is_same_call(const whole_call *call, enum conduct conduct)
     return is_same(by_library, by_peer) && is_same_state();
 }
 
-/* a call while another is under way on both copies, which then ends by the library */
-static int is_same_under_way(const whole_call *call)
+/* what a call meets that begins during another one of its side */
+static enum branch second_of(const whole_call *first, const whole_call *second)
 {
-    evtchn_fifo_next ours, theirs, by_library, by_peer;
+    if (first->kind == SERVICE)
+        return second->kind == SERVICE ? SERVICE_UNDER_WAY : CLEAR_IN_SERVICE;
+    if (first->kind == CLEAR_MASK)
+        return second->kind == SERVICE ? SERVICE_IN_CLEAR : CLEAR_UNDER_WAY;
+    return UNDER_WAY;
+}
+
+/* the same call once more; of the guest's two, the other one as often */
+static whole_call some_second(const whole_call *first)
+{
+    whole_call second = *first;
+    if (is_guests(first) && chance(2) == 0)
+        second.kind = first->kind == SERVICE ? CLEAR_MASK : SERVICE;
+    return second;
+}
+
+/* a call that has made so many accesses at most, by the library */
+static evtchn_fifo_next begun(copy *c, const whole_call *call, uint32_t made, enum conduct conduct, uint64_t seed)
+{
+    set_other(c, conduct, call, seed);
+    return step(c, call, start(c, call), made);
+}
+
+/* a call while another is under way on both copies, which then ends by the library */
+static int is_same_under_way(const whole_call *first, enum conduct conduct)
+{
+    whole_call second = some_second(first);
     uint32_t made = chance(MOST_ACCESSES);
-    set_other(&stepped, QUIET, call, 1);
-    ours = step(&stepped, call, start(&stepped, call), made);
-    theirs = step(&direct, call, start(&direct, call), made);
+    uint64_t seed = some_seed();
+    evtchn_fifo_next ours = begun(&stepped, first, made, conduct, seed), theirs = begun(&direct, first, made, conduct, seed);
+    evtchn_fifo_next by_library, by_peer;
+    other.conduct = QUIET;
     if (!evtchn_fifo_is_access(ours))
         return is_same(ours, theirs);
-    by_library = start(&stepped, call);
-    by_peer = in_place(&direct, call);
-    met[call->kind == SERVICE ? SERVICE_UNDER_WAY : UNDER_WAY] += by_library.code == EVTCHN_FIFO_CALL_UNDER_WAY;
-    ours = run(&stepped, call, ours);
-    theirs = run(&direct, call, theirs);
+    by_library = run(&stepped, &second, start(&stepped, &second));
+    by_peer = in_place(&direct, &second);
+    met[second_of(first, &second)] += by_library.code == EVTCHN_FIFO_CALL_UNDER_WAY || by_library.value > 0;
+    ours = run(&stepped, first, ours);
+    theirs = run(&direct, first, theirs);
     return is_same(by_library, by_peer) && is_same(ours, theirs) && is_same_state();
 }
 
@@ -478,6 +564,7 @@ static whole_call some_call(void)
     case 1:
     case 2: call.kind = SERVICE; break;
     case 3: call.kind = UNMASK; break;
+    case 4: call.kind = CLEAR_MASK; break;
     default: break;
     }
     if (chance(32) == 0)
@@ -499,7 +586,7 @@ static int history(enum conduct conduct)
             change_both(k - given < 2 ? k - given : BIND);
         else if (chance(4) == 0)
             change_both(EXPAND + chance(OTHERS - EXPAND));
-        if (chance(16) == 0 ? !is_same_under_way(&call) : !is_same_call(&call, conduct))
+        if (chance(16) == 0 ? !is_same_under_way(&call, conduct) : !is_same_call(&call, conduct))
             return 0;
     }
     return 1;

@@ -2,7 +2,7 @@
 // function of the call, the port's ledger entry and what R2 looks at in the record, and gives all that changes.
 ghost use mathlib.Core.Path.{_≡_};
 ghost use Rattle.word.specs.Word.{linkBits};
-ghost use Rattle.calls.specs.Hypervisor.{goesOn, ends, endsTailed, named, replyR1, replyU1, replyBind, replyClose, replyFirst, staleQueue, afterR2, replyR2, triesCas, replyR4, replyR5, replyR6, staged, dueFirst, due};
+ghost use Rattle.calls.specs.Hypervisor.{goesOn, ends, endsTailed, named, replyR1, replyU1, replyBind, replyClose, replyFirst, staleQueue, afterR2, replyR2, comparing, clearing, replyR3, afterFirstCas, afterLaterCas, replyR4, replySetBusy, replyClearBusy, replyR5, replyR6, staged, dueFirst, linkingWord, due};
 use crate::records;
 use crate::types::Access;
 use crate::types::Answer;
@@ -213,10 +213,47 @@ pub fn reply_r2(call: Call, entry: u16, view: View, seen: u32) -> Move
     }
 }
 
-// R4: what follows a word seen of the tail, after so many cas: R5 where it lacks LINKED, else a cas, of which there are
-// at most four.
-pub fn tries_cas(call: Call, entry: u16, tries: u32, seen: u32) -> Move
-    ensures { λ r. ⌜ r ≡ triesCas call entry tries seen ⌝ }
+// A cas is named that compares with a word; tries counts the cas named, with this one.
+pub fn comparing(call: Call, tries: u32, word: u32) -> Call
+    ensures { λ r. ⌜ r ≡ comparing call tries word ⌝ }
+{
+    let count = records::one_more(call.count);
+    let owner = call.owner;
+    let port = call.port;
+    let queue = call.queue;
+    Call {
+        owner: owner,
+        stage: Stage::R4,
+        port: port,
+        queue: queue,
+        word: word,
+        tries: tries,
+        count: count,
+    }
+}
+
+// The and that clears BUSY is named; word is the latest word seen.
+pub fn clearing(call: Call, word: u32) -> Call
+    ensures { λ r. ⌜ r ≡ clearing call word ⌝ }
+{
+    let count = records::one_more(call.count);
+    let owner = call.owner;
+    let port = call.port;
+    let queue = call.queue;
+    Call {
+        owner: owner,
+        stage: Stage::ClearBusy,
+        port: port,
+        queue: queue,
+        word: word,
+        tries: 0,
+        count: count,
+    }
+}
+
+// R3: a word without LINKED goes on at R5; else the first cas, of that very word.
+pub fn reply_r3(call: Call, entry: u16, seen: u32) -> Move
+    ensures { λ r. ⌜ r ≡ replyR3 call entry seen ⌝ }
 {
     let queue = call.queue;
     let unlinked = !word::event::has(seen, Flag::Linked);
@@ -224,22 +261,39 @@ pub fn tries_cas(call: Call, entry: u16, tries: u32, seen: u32) -> Move
         let next = named(call, Stage::R5, queue);
         return goes_on(entry, next);
     }
-    let last = 4 <= tries;
-    if last {
-        return ends_tailed(entry, call, Answer::LinkAbandoned);
+    let next = comparing(call, 1, seen);
+    goes_on(entry, next)
+}
+
+// R4's first cas is not taken: R5 where the word seen lacks LINKED, else BUSY is set.
+pub fn after_first_cas(call: Call, entry: u16, seen: u32) -> Move
+    ensures { λ r. ⌜ r ≡ afterFirstCas call entry seen ⌝ }
+{
+    let queue = call.queue;
+    let unlinked = !word::event::has(seen, Flag::Linked);
+    if unlinked {
+        let next = named(call, Stage::R5, queue);
+        return goes_on(entry, next);
     }
-    let count = records::one_more(call.count);
-    let owner = call.owner;
-    let port = call.port;
-    let next = Call {
-        owner: owner,
-        stage: Stage::R4,
-        port: port,
-        queue: queue,
-        word: seen,
-        tries: tries + 1,
-        count: count,
-    };
+    let next = named(call, Stage::SetBusy, queue);
+    goes_on(entry, next)
+}
+
+// A later one is not taken: BUSY is cleared where the word seen lacks LINKED and after the fifth cas; else another cas.
+pub fn after_later_cas(call: Call, entry: u16, seen: u32) -> Move
+    ensures { λ r. ⌜ r ≡ afterLaterCas call entry seen ⌝ }
+{
+    let unlinked = !word::event::has(seen, Flag::Linked);
+    if unlinked {
+        let next = clearing(call, seen);
+        return goes_on(entry, next);
+    }
+    let last = 5 <= call.tries;
+    if last {
+        let next = clearing(call, seen);
+        return goes_on(entry, next);
+    }
+    let next = comparing(call, call.tries + 1, seen);
     goes_on(entry, next)
 }
 
@@ -251,7 +305,39 @@ pub fn reply_r4(call: Call, entry: u16, seen: u32) -> Move
     if taken {
         return ends_tailed(entry, call, Answer::Done);
     }
-    tries_cas(call, entry, call.tries, seen)
+    let first = call.tries <= 1;
+    if first {
+        return after_first_cas(call, entry, seen);
+    }
+    after_later_cas(call, entry, seen)
+}
+
+// BUSY is set: the second cas compares with the word seen and BUSY.
+pub fn reply_set_busy(call: Call, entry: u16, seen: u32) -> Move
+    ensures { λ r. ⌜ r ≡ replySetBusy call entry seen ⌝ }
+{
+    let unlinked = !word::event::has(seen, Flag::Linked);
+    if unlinked {
+        let next = clearing(call, seen);
+        return goes_on(entry, next);
+    }
+    let operand = word::event::mask(Flag::Busy);
+    let standing = word::effect::after_or(seen, operand);
+    let next = comparing(call, 2, standing);
+    goes_on(entry, next)
+}
+
+// BUSY is cleared: R5 where the latest word seen lacks LINKED; else the link is abandoned.
+pub fn reply_clear_busy(call: Call, entry: u16) -> Move
+    ensures { λ r. ⌜ r ≡ replyClearBusy call entry ⌝ }
+{
+    let linked = word::event::has(call.word, Flag::Linked);
+    if linked {
+        return ends_tailed(entry, call, Answer::LinkAbandoned);
+    }
+    let queue = call.queue;
+    let next = named(call, Stage::R5, queue);
+    goes_on(entry, next)
 }
 
 // R5: the port is its queue's tail, and R6 follows. The word handed back for a store is ignored.
@@ -291,8 +377,10 @@ pub fn staged(call: Call, entry: u16, view: View, seen: u32) -> Move
     match stage {
         Stage::First => reply_first(call, entry, seen),
         Stage::R2 => reply_r2(call, entry, view, seen),
-        Stage::R3 => tries_cas(call, entry, 0, seen),
+        Stage::R3 => reply_r3(call, entry, seen),
         Stage::R4 => reply_r4(call, entry, seen),
+        Stage::SetBusy => reply_set_busy(call, entry, seen),
+        Stage::ClearBusy => reply_clear_busy(call, entry),
         Stage::R5 => reply_r5(call, entry),
         Stage::R6 => reply_r6(call, entry, seen),
     }
@@ -320,6 +408,15 @@ pub fn due_first(owner: Owner, port: Port) -> Access
     }
 }
 
+// The new word of R4's cas: LINK of the port, and BUSY clear.
+pub fn linking_word(word: u32, port: Port) -> u32
+    ensures { λ r. ⌜ r ≡ linkingWord linkBits word (port .0) ⌝ }
+{
+    let operand = word::event::all_but(Flag::Busy);
+    let idle = word::effect::after_and(word, operand);
+    word::event::with_link(idle, port)
+}
+
 // The access that a call waits for, where tail is its queue's tail.
 pub fn due(call: Call, tail: u32) -> Access
     ensures { λ r. ⌜ r ≡ due linkBits call tail ⌝ }
@@ -336,8 +433,16 @@ pub fn due(call: Call, tail: u32) -> Access
         }
         Stage::R3 => Access::Read(Place::Word(Port(tail))),
         Stage::R4 => {
-            let new = word::event::with_link(call.word, port);
+            let new = linking_word(call.word, port);
             Access::Cas(Place::Word(Port(tail)), call.word, new)
+        }
+        Stage::SetBusy => {
+            let operand = word::event::mask(Flag::Busy);
+            Access::Or(Place::Word(Port(tail)), operand)
+        }
+        Stage::ClearBusy => {
+            let operand = word::event::all_but(Flag::Busy);
+            Access::And(Place::Word(Port(tail)), operand)
         }
         Stage::R5 => Access::Store(Place::Head(queue), port.0),
         Stage::R6 => {

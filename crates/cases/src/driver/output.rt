@@ -83,6 +83,7 @@ fn answer_of(event: Event) -> Answered {
         Event::Nothing => none(),
         Event::HypervisorAccess(_, _, _) => none(),
         Event::GuestAccess(_, _, _) => none(),
+        Event::ClearAccess(_, _, _) => none(),
         Event::MaskAccess(_, _) => none(),
         Event::HypervisorAnswer(answer, count) => with_number(answer, count),
         Event::GuestAnswer(answer, count) => with_number(answer, count),

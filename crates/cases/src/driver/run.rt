@@ -85,12 +85,14 @@ pub(crate) fn serving(sides: Sides, port: Port, queue: Queue, count: u32) -> Run
     let domain = sides.domain;
     let guest = sides.guest;
     let heads = guest.heads;
+    let clear = guest.clear;
     let call = records::guest_call_at(GuestStage::G3, port, queue, count);
     let changed = Guest {
         heads: heads,
         ready: guest.ready,
         words: guest.words,
         call: call,
+        clear: clear,
     };
     let made = Sides {
         domain: domain,
@@ -105,7 +107,7 @@ pub(crate) fn due(sides: Sides, side: Side) -> Next {
     let guest = sides.guest;
     match side {
         Side::Hypervisor => calls::hypervisor::due(domain),
-        Side::Guest => calls::guest::service_due(guest),
+        Side::Guest => calls::clear_mask::guest_due(guest),
     }
 }
 

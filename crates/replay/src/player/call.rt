@@ -22,6 +22,7 @@ use crate::player::due::stopped;
 use crate::player::named::access_in;
 use crate::player::named::code_in;
 use crate::player::named::is_answer;
+use evtchn_fifo::clear_mask::evtchn_fifo_clear_mask;
 use evtchn_fifo::domain_record::pages_in;
 use evtchn_fifo::encoded::PackedNext;
 use evtchn_fifo::guest::evtchn_fifo_mask;
@@ -117,6 +118,14 @@ fn service(guest: &mut [u8], due: &mut [u8], lines: u64) -> Position
     began(due, Side::Guest, next, lines)
 }
 
+fn clear_mask(guest: &mut [u8], due: &mut [u8], port: Port, lines: u64) -> Position
+    requires { ⌜ (guestSize ≤ length (now guest)) × (length (now due) ≡ 64) × LegalCall (LoggedCall.ClearMask port) ⌝ }
+    ensures { λ r. ⌜ ((d t ws b : List ℕ) → domainSize ≤ length d → playerAt r (now (due .exit)) (worldIn d t (now (guest .exit)) ws b) ≡ begins linkBits (worldIn d t (now (guest .entry)) ws b) lines (LoggedCall.ClearMask port)) ⌝ }
+{
+    let next = evtchn_fifo_clear_mask(guest, port.0 as u64);
+    began(due, Side::Guest, next, lines)
+}
+
 // The call runs.
 fn begin(
     domain: &mut [u8],
@@ -166,6 +175,7 @@ fn begin(
         }
         LoggedCall::Service => service(guest, due, lines),
         LoggedCall::Mask(port) => mask(guest, words, block, due, port, lines),
+        LoggedCall::ClearMask(port) => clear_mask(guest, due, port, lines),
     }
 }
 

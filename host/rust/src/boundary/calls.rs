@@ -98,13 +98,14 @@ pub fn service(guest: &mut [u8]) -> Encoded {
     unsafe { raw::evtchn_fifo_service(guest.as_mut_ptr(), guest.len()) }
 }
 
-/// The reply to the service under way.
+/// The guest's reply: to its clear_mask under way, else to its service.
 pub fn service_reply(guest: &mut [u8], seen: u32) -> Encoded {
     // SAFETY: the slice is lent for the call.
     unsafe { raw::evtchn_fifo_service_reply(guest.as_mut_ptr(), guest.len(), seen) }
 }
 
-/// The access that the service under way waits for; 16 where none is.
+/// The access that the guest waits for: its clear_mask's, else its service's; 16 where neither is
+/// under way.
 pub fn service_due(guest: &[u8]) -> Encoded {
     // SAFETY: the slice is lent for the call.
     unsafe { raw::evtchn_fifo_service_due(guest.as_ptr(), guest.len()) }
@@ -114,6 +115,12 @@ pub fn service_due(guest: &[u8]) -> Encoded {
 pub fn mask(port: u64, words: u64) -> Encoded {
     // SAFETY: takes numbers only.
     unsafe { raw::evtchn_fifo_mask(port, words) }
+}
+
+/// The start of a clear_mask.
+pub fn clear_mask(guest: &mut [u8], port: u64) -> Encoded {
+    // SAFETY: the slice is lent for the call.
+    unsafe { raw::evtchn_fifo_clear_mask(guest.as_mut_ptr(), guest.len(), port) }
 }
 
 /// tell.

@@ -67,6 +67,7 @@ impl Encoded {
             0 if self.index != 0 => Some(Answer::DoneLinkBits(self.index)),
             19 => Some(Answer::HandedOver(Port(self.index))),
             21 => Some(Answer::NotHandedOver(Port(self.index))),
+            35 if self.index == 0 => Some(Answer::CallUnmask),
             _ => None,
         };
         carried.or_else(|| PLAIN.get(self.plain_number()?).copied())

@@ -71,6 +71,7 @@ extern "C" {
     pub fn evtchn_fifo_service_reply(guest: *mut u8, length: usize, seen: u32) -> Encoded;
     pub fn evtchn_fifo_service_due(guest: *const u8, length: usize) -> Encoded;
     pub fn evtchn_fifo_mask(port: u64, words: u64) -> Encoded;
+    pub fn evtchn_fifo_clear_mask(guest: *mut u8, length: usize, port: u64) -> Encoded;
     pub fn evtchn_fifo_tell(guest: *mut u8, length: usize, words: u64) -> Encoded;
     pub fn evtchn_replay_start(
         domain: *mut u8,
@@ -161,6 +162,7 @@ extern "C" {
 mod tests {
     //! NULL is allowed where the length is 0.
     use super::*;
+    use crate::boundary::records::{DOMAIN_SIZE, GUEST_SIZE};
     use std::mem::size_of;
     use std::ptr::{null, null_mut};
 
@@ -173,15 +175,18 @@ mod tests {
                 evtchn_fifo_reply(null_mut(), 0, null_mut(), 0, 0),
                 evtchn_fifo_due(null(), 0),
                 evtchn_fifo_service(null_mut(), 0),
+                evtchn_fifo_service_reply(null_mut(), 0, 0),
+                evtchn_fifo_service_due(null(), 0),
+                evtchn_fifo_clear_mask(null_mut(), 0, 5),
                 evtchn_fifo_tell(null_mut(), 0, 1024),
             ]
         };
-        assert_eq!(given, [Encoded::TOO_SHORT; 5]);
+        assert_eq!(given, [Encoded::TOO_SHORT; 8]);
     }
 
     #[test]
     fn null_ledger_has_no_entry() {
-        let mut domain = [0; 100];
+        let mut domain = [0; DOMAIN_SIZE];
         domain[0] = 1;
         // SAFETY: the record is lent, the ledger has no bytes.
         let given = unsafe {
@@ -193,7 +198,7 @@ mod tests {
 
     #[test]
     fn null_words_ledger_and_text_of_a_replay() {
-        let (mut domain, mut guest, mut block) = ([1; 100], [1; 88], [1; 18]);
+        let (mut domain, mut guest, mut block) = ([1; DOMAIN_SIZE], [1; GUEST_SIZE], [1; 18]);
         let (mut line, mut due) = ([1; 64], [1; 64]);
         let (domain, guest, block) = (domain.as_mut_ptr(), guest.as_mut_ptr(), block.as_mut_ptr());
         let (line, due) = (line.as_mut_ptr(), due.as_mut_ptr());

@@ -2,19 +2,22 @@
 //! lowest first.
 //!
 //! Hypervisor's record, 100 bytes: given 0, pages 4, tails 8, then the call under way: owner 72,
-//! stage 76, port 80, queue 84, word 88, tries 92, count 96. Guest's record, 88 bytes: heads 0,
-//! local ready bits 64, number of words 68, then the service under way: stage 72, port 76,
-//! queue 80, count 84. A code that is none of the list's is no call under way.
+//! stage 76, port 80, queue 84, word 88, tries 92, count 96. Guest's record, 104 bytes: heads 0,
+//! local ready bits 64, number of words 68, then the service under way: stage 72, port 76, queue
+//! 80, count 84, and the clear_mask under way: stage 88, port 92, word 96, count 100. A code that
+//! is none of the list's is no call under way.
 
 use crate::model::decisions::QueueValues;
-use crate::model::{Domain, FlatCall, FlatService, Guest, Owner, ServiceTag, StageTag};
+use crate::model::{
+    ClearTag, Domain, FlatCall, FlatClear, FlatService, Guest, Owner, ServiceTag, StageTag,
+};
 
 /// Bytes of the hypervisor's record.
 pub const DOMAIN_SIZE: usize = 100;
 /// Bytes of the guest's record.
-pub const GUEST_SIZE: usize = 88;
+pub const GUEST_SIZE: usize = 104;
 /// The layout that this decoder reads.
-pub const LAYOUT: u32 = 1;
+pub const LAYOUT: u32 = 2;
 
 /// Where `given` stands.
 pub const GIVEN: usize = 0;
@@ -22,8 +25,17 @@ pub const GIVEN: usize = 0;
 pub const OWNER: usize = 72;
 /// Where the stage's code stands.
 pub const STAGE: usize = 76;
-/// Where the guest's stage's code stands.
+/// Where the service's stage's code stands.
 pub const GUEST_STAGE: usize = 72;
+/// Where the clear_mask's stage's code stands, behind all that is not the clear_mask's.
+pub const CLEAR_STAGE: usize = 88;
+
+/// Number of the stages' codes of the hypervisor's record, which begin at 0.
+pub const STAGES: u32 = 8;
+/// The highest code of a service's stage; the codes begin at 1.
+pub const SERVICE_STAGES: u32 = 5;
+/// The highest code of a clear_mask's stage; the codes begin at 1.
+pub const CLEAR_STAGES: u32 = 2;
 
 /// The number of four bytes at `at`.
 pub fn number(bytes: &[u8], at: usize) -> u32 {
@@ -102,6 +114,8 @@ fn stage(owner: Owner, code: u32) -> Option<StageTag> {
         (3, _) => Some(StageTag::R4),
         (4, _) => Some(StageTag::R5),
         (5, _) => Some(StageTag::R6),
+        (6, _) => Some(StageTag::SetBusy),
+        (7, _) => Some(StageTag::ClearBusy),
         _ => None,
     }
 }
@@ -114,6 +128,8 @@ fn stage_code(stage: StageTag) -> u32 {
         StageTag::R4 => 3,
         StageTag::R5 => 4,
         StageTag::R6 => 5,
+        StageTag::SetBusy => 6,
+        StageTag::ClearBusy => 7,
     }
 }
 
@@ -140,11 +156,34 @@ pub fn guest(bytes: &[u8]) -> Guest {
         queue: number(bytes, 80),
         count: number(bytes, 84),
     };
+    let clearing = FlatClear {
+        stage: clear_stage(number(bytes, CLEAR_STAGE)),
+        port: number(bytes, 92),
+        word: number(bytes, 96),
+        count: number(bytes, 100),
+    };
     Guest {
         heads: sixteen(bytes, 0),
         local: number(bytes, 64),
         words: number(bytes, 68),
         call: service.service(),
+        clearing: clearing.clear_mask(),
+    }
+}
+
+fn clear_stage(code: u32) -> Option<ClearTag> {
+    match code {
+        1 => Some(ClearTag::Read),
+        2 => Some(ClearTag::Cas),
+        _ => None,
+    }
+}
+
+fn clear_code(stage: Option<ClearTag>) -> u32 {
+    match stage {
+        None => 0,
+        Some(ClearTag::Read) => 1,
+        Some(ClearTag::Cas) => 2,
     }
 }
 
@@ -180,6 +219,11 @@ pub fn put_guest(bytes: &mut [u8], guest: &Guest) {
     put_number(bytes, 76, service.port);
     put_number(bytes, 80, service.queue);
     put_number(bytes, 84, service.count);
+    let clearing = FlatClear::from(guest.clearing);
+    put_number(bytes, CLEAR_STAGE, clear_code(clearing.stage));
+    put_number(bytes, 92, clearing.port);
+    put_number(bytes, 96, clearing.word);
+    put_number(bytes, 100, clearing.count);
 }
 
 #[cfg(test)]
@@ -208,11 +252,36 @@ mod tests {
             let bytes: [u8; DOMAIN_SIZE] = std::array::from_fn(|_| random.word() as u8);
             let mut coded = bytes;
             put_number(&mut coded, OWNER, random.below(6) as u32);
-            put_number(&mut coded, STAGE, random.below(7) as u32);
+            put_number(&mut coded, STAGE, random.below(10) as u32);
             let record = domain(&coded);
             let mut written = bytes;
             put_domain(&mut written, &record);
             assert_eq!(domain(&written), record);
         }
+    }
+
+    #[test]
+    fn what_is_written_of_a_guest_reads_back() {
+        let mut random = crate::random::Random::new(1);
+        for _ in 0..10_000 {
+            let bytes: [u8; GUEST_SIZE] = std::array::from_fn(|_| random.word() as u8);
+            let mut coded = bytes;
+            put_number(&mut coded, GUEST_STAGE, random.below(7) as u32);
+            put_number(&mut coded, CLEAR_STAGE, random.below(4) as u32);
+            let record = guest(&coded);
+            let mut written = bytes;
+            put_guest(&mut written, &record);
+            assert_eq!(guest(&written), record);
+        }
+    }
+
+    #[test]
+    fn codes_end_where_they_are_said_to() {
+        let known = |code| stage(Owner::Raise, code).is_some();
+        assert!(known(STAGES - 1) && !known(STAGES));
+        let known = |code| service_stage(code).is_some();
+        assert!(known(SERVICE_STAGES) && !known(SERVICE_STAGES + 1));
+        let known = |code| clear_stage(code).is_some();
+        assert!(known(CLEAR_STAGES) && !known(CLEAR_STAGES + 1));
     }
 }

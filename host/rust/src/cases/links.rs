@@ -1,7 +1,7 @@
-//! Paths of raise and unmask that C1 to C12 leave out.
+//! Paths of raise and unmask that C1 to C12 leave out, but for those through BUSY.
 
 use super::run::{set_priority, Run};
-use super::small_set::{after_c1, after_c5, at_r3, at_r4, begun};
+use super::small_set::{after_c1, after_c5, at_r3, begun};
 use super::Script;
 use crate::model::Side::Hypervisor;
 use crate::model::Step::{Bind, Close, Mask, Raise, Unmask};
@@ -10,10 +10,6 @@ use crate::model::{Call, Owner, Port, Queue, Stage};
 pub const SCRIPTS: &[Script] = &[
     ("R3 without LINKED", r3_unlinked),
     ("Reserved bits and a changed LINK", changed_words),
-    ("Fourth cas loses LINKED", fourth_unlinked),
-    ("Taken on the second try", taken_second),
-    ("Taken on the third try", taken_third),
-    ("Taken on the fourth try", taken_fourth),
     ("R6 sees the bit set", ready_seen),
     ("R2 sees LINKED", r2_linked),
     ("Unmask sees LINKED, then no PENDING", unmask_linked),
@@ -28,30 +24,8 @@ fn r3_unlinked(run: &mut Run) {
 
 fn changed_words(run: &mut Run) {
     at_r3(run);
-    run.replies(Hypervisor, &[0xBFFE_0003, 0xE100_0003, 0xE100_0003]);
-}
-
-fn fourth_unlinked(run: &mut Run) {
-    at_r4(run);
-    let words = [0xE000_0000, 0xA000_0000, 0xE000_0000, 0x8000_0000];
-    run.replies(Hypervisor, &words).finish(Hypervisor);
-}
-
-fn taken_second(run: &mut Run) {
-    at_r4(run);
-    run.replies(Hypervisor, &[0xE000_0000, 0xE000_0000]);
-}
-
-fn taken_third(run: &mut Run) {
-    at_r4(run);
-    run.replies(Hypervisor, &[0xE000_0000, 0xA000_0000]);
-    run.accesses(Hypervisor, 1);
-}
-
-fn taken_fourth(run: &mut Run) {
-    at_r4(run);
-    let words = [0xE000_0000, 0xA000_0000, 0xE000_0000, 0xE000_0000];
-    run.replies(Hypervisor, &words);
+    run.replies(Hypervisor, &[0xAFFE_0003, 0xE100_0003, 0xE100_0003]);
+    run.replies(Hypervisor, &[0xF100_0003]);
 }
 
 fn ready_seen(run: &mut Run) {

@@ -1,6 +1,8 @@
 //! The scripts of crate `cases` run by the model: whole access logs, each after a title and before
 //! a line with the counts of its answers.
 
+mod busy;
+mod clear_masks;
 mod edges;
 mod links;
 mod refusals;
@@ -52,7 +54,9 @@ fn scripts() -> impl Iterator<Item = (Script, usize)> {
     let small = [
         small_set::SCRIPTS,
         links::SCRIPTS,
+        busy::SCRIPTS,
         services::SCRIPTS,
+        clear_masks::SCRIPTS,
         refusals::SCRIPTS,
         edges::SCRIPTS,
     ]

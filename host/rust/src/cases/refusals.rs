@@ -10,6 +10,7 @@ use crate::model::Step::{Bind, Close, Mask, Raise, Service, Unmask};
 pub const SCRIPTS: &[Script] = &[
     ("14 at the replies of bind, R1, R2, R5, R6", no_entry_first),
     ("14 at the replies of R3, R4, close, U1", no_entry_then),
+    ("14 at the replies of the or and the and", no_entry_busy),
     ("Bind and close outside the array", outside),
     ("Calls during a raise", under_way),
     ("Refusals of the calls on ports", in_order),
@@ -30,6 +31,18 @@ fn no_entry_then(run: &mut Run) {
     run.access_twice().access_twice();
     run.step(Close(9)).access_twice();
     run.steps(&[Mask(5), Unmask(5)]).access_twice();
+}
+
+/// Port 5 is masked before the first cas of port 9, and taken before the second.
+fn no_entry_busy(run: &mut Run) {
+    after_c1(run);
+    run.calls(&[Bind(9)]).step(Service).accesses(Guest, 2);
+    run.step(Raise(9)).accesses(Hypervisor, 3).step(Mask(5));
+    run.accesses(Hypervisor, 1).access_twice();
+    run.accesses(Guest, 1)
+        .accesses(Hypervisor, 1)
+        .access_twice();
+    run.finish(Hypervisor).finish(Guest);
 }
 
 fn outside(run: &mut Run) {

@@ -4,7 +4,7 @@ use crate::model::log::{self, Line, LoggedCall};
 use crate::model::{Entry, Event, Model, Side, Step, World};
 
 /// Most accesses of a call.
-const MOST: usize = 9;
+const MOST: usize = 12;
 
 /// A world and its history.
 pub struct Run {
@@ -84,6 +84,11 @@ impl Run {
     /// A whole service.
     pub fn service(&mut self) -> &mut Self {
         self.step(Step::Service).finish(Side::Guest)
+    }
+
+    /// A whole clear_mask, with no service under way.
+    pub fn clear_mask(&mut self, port: u64) -> &mut Self {
+        self.step(Step::ClearMask(port)).finish(Side::Guest)
     }
 
     /// Accesses of a side, with their replies.

@@ -107,9 +107,11 @@ fn c11(run: &mut Run) {
     run.calls(&[Close(5), Bind(5)]).service().calls(&[Bind(5)]);
 }
 
-/// Four cas replies of a guest that breaks the rules.
+/// A guest that breaks the rules changes MASKED before the or and before each of five cas.
 fn c12(run: &mut Run) {
     at_r4(run);
-    let words = [0xE000_0000, 0xA000_0000, 0xE000_0000, 0xA000_0000];
+    run.replies(Hypervisor, &[0xE000_0000, 0xA000_0000]);
+    let words = [0xF000_0000, 0xB000_0000, 0xF000_0000, 0xB000_0000];
     run.replies(Hypervisor, &words);
+    run.replies(Hypervisor, &[0xB000_0000]);
 }

@@ -49,6 +49,7 @@ fn step(random: &mut Random, recorder: &mut Recorder) {
     let port = port(random.below(PORTS));
     match random.below(16) {
         0 => recorder.call(LoggedCall::Mask(port)),
+        15 if random.once_in(2) => recorder.call(LoggedCall::ClearMask(port)),
         1..=5 if recorder.world.due(Side::Guest).is_some() => recorder.access(Side::Guest),
         1..=5 if ready => recorder.call(LoggedCall::Service),
         _ if recorder.world.due(Side::Hypervisor).is_some() => {
@@ -94,5 +95,6 @@ mod tests {
         let often: Vec<&str> = often.map(|(kind, _)| *kind).collect();
         assert!(often.contains(&"X cas w") && often.contains(&"G answer 19"));
         assert!(often.contains(&"G answer 21") && often.contains(&"X answer 7"));
+        assert!(often.contains(&"G answer 35") && often.contains(&"G cas w"));
     }
 }

@@ -15,7 +15,7 @@ const REPORTS: [u32; 4] = [0, 1, 22, 33];
 pub struct Coverage {
     /// Lines of good logs, by kind.
     kinds: [u64; KINDS.len()],
-    moments: [u64; MOMENTS.len()],
+    moments: Vec<u64>,
     reasons: Vec<u64>,
     reports: [u64; REPORTS.len()],
     /// Reports on the logs of each damage.
@@ -26,7 +26,7 @@ impl Default for Coverage {
     fn default() -> Self {
         Coverage {
             kinds: [0; KINDS.len()],
-            moments: [0; MOMENTS.len()],
+            moments: vec![0; MOMENTS.len()],
             reasons: vec![0; REASONS.len()],
             reports: [0; REPORTS.len()],
             damages: [[0; REPORTS.len()]; DAMAGES.len()],
@@ -43,7 +43,7 @@ impl Coverage {
                 self.kinds[kind] += 1;
             }
             if let Some(moment) = under_way.note(line) {
-                self.moments[moment] += 1;
+                self.moments[moment as usize] += 1;
             }
         }
     }
@@ -66,8 +66,8 @@ impl Coverage {
         for (kind, times) in KINDS.iter().zip(self.kinds) {
             counts.push((format!("line of a good log: {kind}"), times));
         }
-        for (moment, times) in MOMENTS.iter().zip(self.moments) {
-            counts.push((format!("in a good log: {moment}"), times));
+        for ((_, moment), times) in MOMENTS.iter().zip(&self.moments) {
+            counts.push((format!("in a good log: {moment}"), *times));
         }
         for (number, times) in REPORTS.iter().zip(self.reports) {
             counts.push((format!("report {number}"), times));

@@ -1,10 +1,11 @@
 //! Good logs: random histories of a domain and its guest, recorded. Both sides' steps interleave,
 //! and no expand adds a page past those lent.
 
+use super::meeting::{self, masking, meets};
 use super::recorder::{Recorder, Shape};
 use crate::model::domain::PAGE_WORDS;
 use crate::model::log::LoggedCall;
-use crate::model::{Access, Op, Place, Side, World};
+use crate::model::{Side, World};
 use crate::random::Random;
 
 const WORDS: [usize; 10] = [0, 500, 1024, 1024, 1024, 2047, 2048, 2048, 4096, 4096];
@@ -13,6 +14,8 @@ const ENTRIES: [usize; 12] = [0, 1, 8, 8, 8, 8, 8, 8, 1024, 1024, 1024, 4096];
 const LARGE: [usize; 2] = [128 * PAGE_WORDS as usize, 129 * PAGE_WORDS as usize];
 /// One log in so many has 128 pages.
 const SELDOM: u64 = 300;
+/// One log in so many is of both sides on few words.
+const MEETING: u64 = 3;
 /// Ports at edges: never valid, outside an array, the last one, one that no domain has.
 const EDGE_PORTS: [u32; 9] = [0, 1, 1024, 2048, 4095, 4096, 131_071, 131_072, u32::MAX];
 const PORTS: [u32; 8] = [1, 2, 3, 5, 7, 1023, 1025, 4095];
@@ -27,6 +30,14 @@ pub fn shape(random: &mut Random) -> Shape {
 
 /// A good log with what is lent to it.
 pub fn record(random: &mut Random) -> (Shape, Recorder) {
+    match random.once_in(MEETING) {
+        true => (meeting::SHAPE, meeting::record(random)),
+        false => record_any(random),
+    }
+}
+
+/// A good log over anything that is lent.
+pub fn record_any(random: &mut Random) -> (Shape, Recorder) {
     if random.once_in(SELDOM) {
         let shape = Shape {
             words: random.pick(&LARGE),
@@ -122,14 +133,12 @@ impl Calls {
         recorder.call(LoggedCall::Raise(self.ports[self.ports.len() - 1]));
     }
 
-    /// An access of a call under way, mostly, or a call; before a cas often something of the
-    /// guest's on the word that it is on.
+    /// An access of a call under way, mostly, or a call; both sides often meet.
     fn step(&self, random: &mut Random, recorder: &mut Recorder) {
-        let world = &recorder.world;
-        let tail = cas_place(world).filter(|_| !random.once_in(3));
-        if let Some(tail) = tail {
-            return meet(random, recorder, tail);
+        if meets(random, recorder) {
+            return;
         }
+        let world = &recorder.world;
         let under_way = |side| world.due(side).is_some();
         let (hypervisor, guest) = (under_way(Side::Hypervisor), under_way(Side::Guest));
         let ready = (world.memory.control.ready | world.guest.local) != 0;
@@ -139,7 +148,10 @@ impl Calls {
             11..=13 if (ready && !guest) || random.once_in(8) => {
                 recorder.call(LoggedCall::Service);
             }
-            14 => recorder.call(LoggedCall::Mask(self.port(random))),
+            14 => {
+                let port = self.port(random);
+                recorder.call(masking(random, &recorder.world, port));
+            }
             _ if hypervisor && !random.once_in(2 * self.refused) => {
                 recorder.access(Side::Hypervisor);
             }
@@ -208,27 +220,6 @@ impl Calls {
             true => random.pick(&[15, 16, 255, u32::MAX]),
             false => random.pick(&self.priorities),
         }
-    }
-}
-
-/// The port whose word the hypervisor's call is about to change by a cas.
-fn cas_place(world: &World) -> Option<u32> {
-    match world.due(Side::Hypervisor) {
-        Some((_, Access { place, op })) => match (place, op) {
-            (Place::Word(port), Op::Cas { .. }) => Some(port.0),
-            _ => None,
-        },
-        None => None,
-    }
-}
-
-/// The guest masks a port, or goes on with its service.
-fn meet(random: &mut Random, recorder: &mut Recorder, port: u32) {
-    let serves = recorder.world.due(Side::Guest).is_some();
-    match random.below(2) {
-        0 => recorder.call(LoggedCall::Mask(port)),
-        _ if serves => recorder.access(Side::Guest),
-        _ => recorder.call(LoggedCall::Service),
     }
 }
 

@@ -5,7 +5,7 @@ use crate::model::{Op, Place, Side};
 
 /// Every kind by its first fields: of an access side, kind and what the place is; of an answer
 /// side and number; of a call side and name.
-pub const KINDS: [&str; 44] = [
+pub const KINDS: [&str; 47] = [
     "header",
     "X read w",
     "X store h",
@@ -18,6 +18,7 @@ pub const KINDS: [&str; 44] = [
     "G read w",
     "G and w",
     "G or w",
+    "G cas w",
     "X answer 0",
     "X answer 1",
     "X answer 3",
@@ -41,6 +42,7 @@ pub const KINDS: [&str; 44] = [
     "G answer 19",
     "G answer 20",
     "G answer 21",
+    "G answer 35",
     "X call init_control",
     "X call expand_array",
     "X call bind",
@@ -50,6 +52,7 @@ pub const KINDS: [&str; 44] = [
     "X call unmask",
     "G call service",
     "G call mask",
+    "G call clear_mask",
 ];
 
 /// The place of a line's kind in `KINDS`; none where no run from fresh records has such a line.
@@ -62,18 +65,18 @@ pub fn kind(line: &Line) -> Option<usize> {
         },
         Line::Answer { side, number, .. } => {
             let (first, numbers): (usize, &[u32]) = match side {
-                Side::Hypervisor => (12, &HYPERVISOR_ANSWERS),
-                Side::Guest => (28, &GUEST_ANSWERS),
+                Side::Hypervisor => (13, &HYPERVISOR_ANSWERS),
+                Side::Guest => (29, &GUEST_ANSWERS),
             };
             let at = numbers.iter().position(|known| *known == number)?;
             Some(first + at)
         }
-        Line::Call(call) => Some(35 + call_kind(call)),
+        Line::Call(call) => Some(37 + call_kind(call)),
     }
 }
 
 const HYPERVISOR_ANSWERS: [u32; 16] = [0, 1, 3, 4, 5, 6, 7, 8, 9, 10, 11, 12, 13, 14, 15, 17];
-const GUEST_ANSWERS: [u32; 7] = [0, 3, 6, 15, 19, 20, 21];
+const GUEST_ANSWERS: [u32; 8] = [0, 3, 6, 15, 19, 20, 21, 35];
 
 fn hypervisor_access(op: Op, place: Place) -> Option<usize> {
     match (op, place) {
@@ -94,6 +97,7 @@ fn guest_access(op: Op, place: Place) -> Option<usize> {
         (Op::Read, Place::Word(_)) => Some(9),
         (Op::And(_), Place::Word(_)) => Some(10),
         (Op::Or(_), Place::Word(_)) => Some(11),
+        (Op::Cas { .. }, Place::Word(_)) => Some(12),
         _ => None,
     }
 }
@@ -109,6 +113,7 @@ fn call_kind(call: LoggedCall) -> usize {
         LoggedCall::Unmask(_) => 6,
         LoggedCall::Service => 7,
         LoggedCall::Mask(_) => 8,
+        LoggedCall::ClearMask(_) => 9,
     }
 }
 

@@ -18,14 +18,16 @@ const NUMBERS: [u32; 12] = [
     u32::MAX - 1,
     u32::MAX,
 ];
-const WORDS: [u32; 8] = [
+const WORDS: [u32; 10] = [
     0,
     5,
     0x80,
+    0x1000_0000,
     0x4000_0000,
     0x8000_0000,
     0xA000_0009,
     0xDFFE_0000,
+    0xEFFF_FFFF,
     u32::MAX,
 ];
 
@@ -60,7 +62,7 @@ pub fn line(random: &mut Random) -> Line {
 pub fn call(random: &mut Random) -> LoggedCall {
     let mut number = || number(random);
     let (port, argument, third) = (number(), number(), number());
-    match random.below(9) {
+    match random.below(10) {
         0 => LoggedCall::InitControl {
             vcpu: port,
             frame: argument,
@@ -76,7 +78,8 @@ pub fn call(random: &mut Random) -> LoggedCall {
         5 => LoggedCall::Raise(port),
         6 => LoggedCall::Unmask(port),
         7 => LoggedCall::Service,
-        _ => LoggedCall::Mask(port),
+        8 => LoggedCall::Mask(port),
+        _ => LoggedCall::ClearMask(port),
     }
 }
 

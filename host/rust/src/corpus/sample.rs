@@ -5,7 +5,8 @@ use super::kinds::kind;
 use super::recorder::{Recorder, Shape};
 use crate::model::log::Line;
 use crate::model::log::LoggedCall::{
-    self, Bind, Close, ExpandArray, InitControl, Mask, Raise, Service, SetPriority, Unmask,
+    self, Bind, ClearMask, Close, ExpandArray, InitControl, Mask, Raise, Service, SetPriority,
+    Unmask,
 };
 use crate::model::Side::{self, Guest, Hypervisor};
 use std::ops::Range;
@@ -55,7 +56,8 @@ fn give_and_add(recorder: &mut Recorder) {
     finish(recorder, Hypervisor);
 }
 
-/// Port 1023 is linked behind port 5, which the guest masks between the read and the cas.
+/// Port 1023 is linked behind port 5, which the guest masks between the read and the cas; it can't
+/// clear the mask while port 5 is pending.
 fn link(recorder: &mut Recorder) {
     recorder.call(Raise(1023));
     (0..3).for_each(|_| recorder.access(Hypervisor));
@@ -63,9 +65,12 @@ fn link(recorder: &mut Recorder) {
     recorder.call(Service);
     recorder.call(Service);
     finish(recorder, Hypervisor);
-    finish(recorder, Guest);
+    recorder.access(Guest);
+    recorder.whole(ClearMask(5));
     recorder.whole(Service);
     recorder.whole(Unmask(5));
+    recorder.whole(Mask(9));
+    recorder.whole(ClearMask(9));
     recorder.whole(SetPriority {
         port: 1023,
         priority: 15,
@@ -90,6 +95,8 @@ fn refuse(recorder: &mut Recorder) {
         Raise(1500),
         Mask(0),
         Mask(1024),
+        ClearMask(0),
+        ClearMask(1024),
     ];
     calls.into_iter().for_each(|call| recorder.whole(call));
     recorder.whole(init(1, 1, 8));

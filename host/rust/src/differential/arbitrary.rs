@@ -4,7 +4,8 @@ use super::coverage::Coverage;
 use super::lent::{edge, ledger_bytes, length_from, random_bytes};
 use super::pair::Pair;
 use crate::boundary::records::{
-    put_domain, put_guest, put_number, DOMAIN_SIZE, GIVEN, GUEST_SIZE, GUEST_STAGE, OWNER, STAGE,
+    put_domain, put_guest, put_number, CLEAR_STAGE, CLEAR_STAGES, DOMAIN_SIZE, GIVEN, GUEST_SIZE,
+    GUEST_STAGE, OWNER, SERVICE_STAGES, STAGE, STAGES,
 };
 use crate::guarded::Guarded;
 use crate::model::arbitrary::{self, hostile_step};
@@ -82,7 +83,7 @@ pub(super) fn random_domain(random: &mut Random, bytes: &mut Guarded) {
     }
     if random.once_in(6) {
         put_number(bytes.bytes_mut(), OWNER, code(random, 6));
-        put_number(bytes.bytes_mut(), STAGE, code(random, 7));
+        put_number(bytes.bytes_mut(), STAGE, code(random, STAGES + 1));
     }
     if random.once_in(6) {
         let given = random.pick(&[0, 2, 256, 1 << 16, 1 << 31, u32::MAX]);
@@ -101,16 +102,21 @@ fn random_guest(random: &mut Random, bytes: &mut Guarded) {
         put_guest(bytes.bytes_mut(), &arbitrary::guest(random));
     }
     if random.once_in(6) {
-        put_number(bytes.bytes_mut(), GUEST_STAGE, code(random, 7));
+        let stage = code(random, SERVICE_STAGES + 2);
+        put_number(bytes.bytes_mut(), GUEST_STAGE, stage);
+    }
+    if random.once_in(6) {
+        let stage = code(random, CLEAR_STAGES + 2);
+        put_number(bytes.bytes_mut(), CLEAR_STAGE, stage);
     }
 }
 
 /// A code, mostly below `list`.
-fn code(random: &mut Random, list: u64) -> u32 {
+fn code(random: &mut Random, list: u32) -> u32 {
     match random.below(8) {
         0 => random.word(),
         1 => random.pick(&[255, 256, 1 << 16, 0x0100_0001, u32::MAX]),
-        _ => random.below(list) as u32,
+        _ => random.below(list.into()) as u32,
     }
 }
 

@@ -1,5 +1,6 @@
 //! The branches of every stage, told from the record before the reply and the word seen.
 
+use super::linking::{of_clear_busy, of_r4, of_set_busy};
 use super::pair::Before;
 use crate::model::decisions::queue_value;
 use crate::model::{Call, Domain, Entry, EventWord, Guest, Port, Queue, ServiceStage, Stage};
@@ -25,21 +26,36 @@ points! {
     R2TailIsPort = "R2: T[q] is p, to R5",
     R2Tail = "R2: T[q] in the array, to R3",
     R2TailOutside = "R2: T[q] outside the array, to R3",
-    R3Linked = "R3: seen LINKED, to R4",
+    R3Linked = "R3: seen LINKED, not BUSY, to R4",
+    R3Busy = "R3: seen LINKED and BUSY, to R4",
     R3NotLinked = "R3: seen not LINKED, to R5",
     R4Taken1 = "R4: taken on try 1",
     R4Taken2 = "R4: taken on try 2",
     R4Taken3 = "R4: taken on try 3",
     R4Taken4 = "R4: taken on try 4",
+    R4Taken5 = "R4: taken on try 5",
     R4Lost1 = "R4: try 1 loses LINKED, to R5",
-    R4Lost2 = "R4: try 2 loses LINKED, to R5",
-    R4Lost3 = "R4: try 3 loses LINKED, to R5",
-    R4Lost4 = "R4: try 4 loses LINKED, to R5",
-    R4Again1 = "R4: try 1 not taken, keeps LINKED",
-    R4Again2 = "R4: try 2 not taken, keeps LINKED",
-    R4Again3 = "R4: try 3 not taken, keeps LINKED",
-    R4Abandoned = "R4: try 4 not taken, keeps LINKED: 2",
-    R4Other = "R4: tries of 0 or above 4 (arbitrary records)",
+    R4Lost2 = "R4: try 2 loses LINKED, to the and",
+    R4Lost3 = "R4: try 3 loses LINKED, to the and",
+    R4Lost4 = "R4: try 4 loses LINKED, to the and",
+    R4Lost5 = "R4: try 5 loses LINKED, to the and",
+    R4Again1 = "R4: try 1 not taken, keeps LINKED, to the or",
+    R4Again2 = "R4: try 2 not taken, keeps LINKED and BUSY",
+    R4Again3 = "R4: try 3 not taken, keeps LINKED and BUSY",
+    R4Again4 = "R4: try 4 not taken, keeps LINKED and BUSY",
+    R4BusyGone = "R4: a later try not taken, BUSY gone, LINKED not",
+    R4Abandoned = "R4: try 5 not taken, keeps LINKED, to the and",
+    R4Zero = "R4: no try so far (arbitrary records)",
+    R4Beyond = "R4: tries above 5 (arbitrary records)",
+    BusyLinked = "BUSY or: seen LINKED, not BUSY, to try 2",
+    BusyWasSet = "BUSY or: seen LINKED and BUSY, to try 2",
+    BusyLost = "BUSY or: seen not LINKED, to the and",
+    BusyNoEntry = "BUSY or: 14, the call stands",
+    UnbusyHead = "BUSY and: LINKED was lost and is, to R5",
+    UnbusyHeadLinked = "BUSY and: LINKED was lost, seen again, to R5",
+    UnbusyEnds = "BUSY and: LINKED was kept and is: 2",
+    UnbusyEndsLost = "BUSY and: LINKED was kept, seen lost: 2",
+    UnbusyNoEntry = "BUSY and: 14, the call stands",
     R5Made = "R5: HEAD stored",
     R6BitClear = "R6: bit was clear: 1",
     R6BitSet = "R6: bit was set: 0",
@@ -57,6 +73,26 @@ points! {
     G3Goes = "G3: to G4",
     G4Pending = "G4: seen PENDING: 19",
     G4NotPending = "G4: seen not PENDING: 21",
+    ClearNotMasked = "clear_mask read: not MASKED, PENDING or BUSY: 0",
+    ClearUnmasked = "clear_mask read: PENDING or BUSY, not MASKED: 0",
+    ClearPending = "clear_mask read: MASKED, PENDING: 35",
+    ClearBusy = "clear_mask read: MASKED, BUSY, not PENDING: 35",
+    ClearGoes = "clear_mask read: MASKED alone, to its cas",
+    ClearTaken = "clear_mask cas: taken: 0",
+    ClearLostBusy = "clear_mask cas: not taken, BUSY since its read: 35",
+    ClearLostPending = "clear_mask cas: not taken, PENDING since: 35",
+    ClearLost = "clear_mask cas: not taken, otherwise: 35",
+    ClearAlone = "clear_mask: begins, no service under way",
+    ClearInService = "clear_mask: begins during a service",
+    ClearTwice = "clear_mask: 15, no service under way",
+    ClearTwiceInService = "clear_mask: 15, and a service under way",
+    ServiceTwice = "service: 15, no clear_mask under way",
+    ServiceInClear = "service: 15, a clear_mask alone under way",
+    ServiceTwiceInClear = "service: 15, and a clear_mask under way",
+    ServiceWaits = "reply to clear_mask: a service waits",
+    ServiceGoesOn = "reply to service: a clear_mask ended before",
+    MaskInClear = "mask: of the port of a clear_mask under way",
+    TellInClear = "tell: a clear_mask under way",
 }
 
 /// The branches of an accepted reply to the hypervisor's call: R2 has two.
@@ -70,9 +106,10 @@ pub fn of_reply(before: &Before, call: &Call, entry: Entry, seen: u32) -> [Optio
         Stage::U1 => of_u1(word),
         Stage::R2 if word.linked => Point::R2Linked,
         Stage::R2 => return of_r2(&before.domain, call.port, entry),
-        Stage::R3 { .. } if word.linked => Point::R3Linked,
-        Stage::R3 { .. } => Point::R3NotLinked,
-        Stage::R4 { old, tries, .. } => of_r4(old == seen, word.linked, tries),
+        Stage::R3 { .. } => of_r3(word),
+        Stage::R4 { old, tries, .. } => of_r4(old == seen, word, tries),
+        Stage::SetBusy { .. } => of_set_busy(word),
+        Stage::ClearBusy { word: kept, .. } => of_clear_busy(EventWord::from_bits(kept), word),
         Stage::R5 { .. } => Point::R5Made,
         Stage::R6 { queue } if seen >> (queue.0 % 16) & 1 == 0 => Point::R6BitClear,
         Stage::R6 { .. } => Point::R6BitSet,
@@ -127,21 +164,11 @@ fn of_tail(domain: &Domain, port: Port, queue: Queue) -> Point {
     }
 }
 
-fn of_r4(taken: bool, linked: bool, tries: u32) -> Point {
-    match (tries, taken, linked) {
-        (1, true, _) => Point::R4Taken1,
-        (2, true, _) => Point::R4Taken2,
-        (3, true, _) => Point::R4Taken3,
-        (4, true, _) => Point::R4Taken4,
-        (1, _, false) => Point::R4Lost1,
-        (2, _, false) => Point::R4Lost2,
-        (3, _, false) => Point::R4Lost3,
-        (4, _, false) => Point::R4Lost4,
-        (1, _, true) => Point::R4Again1,
-        (2, _, true) => Point::R4Again2,
-        (3, _, true) => Point::R4Again3,
-        (4, _, true) => Point::R4Abandoned,
-        _ => Point::R4Other,
+fn of_r3(word: EventWord) -> Point {
+    match (word.linked, word.busy) {
+        (false, _) => Point::R3NotLinked,
+        (true, false) => Point::R3Linked,
+        (true, true) => Point::R3Busy,
     }
 }
 

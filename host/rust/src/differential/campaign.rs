@@ -2,7 +2,7 @@
 
 use super::coverage::Coverage;
 use super::pair::Pair;
-use super::{arbitrary, honest, hostile, refusals, stages};
+use super::{arbitrary, honest, hostile, refusals, rewritten, stages};
 use crate::crash;
 use crate::model::Model;
 use crate::random::Random;
@@ -23,7 +23,7 @@ pub struct Campaign {
 }
 
 /// Every kind.
-pub const CAMPAIGNS: [Campaign; 5] = [
+pub const CAMPAIGNS: [Campaign; 6] = [
     Campaign {
         name: "honest",
         history: honest::history,
@@ -43,6 +43,11 @@ pub const CAMPAIGNS: [Campaign; 5] = [
         name: "arbitrary",
         history: arbitrary::history,
         histories: 350_000,
+    },
+    Campaign {
+        name: "rewritten",
+        history: rewritten::history,
+        histories: 7_000,
     },
     Campaign {
         name: "stages",

@@ -1,7 +1,7 @@
 //! What the library gives and holds after a step, compared with the model's.
 
 use super::pair::Pair;
-use crate::boundary::records::{self, DOMAIN_SIZE, GUEST_SIZE};
+use crate::boundary::records::{self, CLEAR_STAGE, DOMAIN_SIZE, GUEST_SIZE};
 use crate::boundary::{calls, ledger, Encoded};
 use crate::model::machine::Stepped;
 use crate::model::{Answer, Event, Next};
@@ -65,10 +65,36 @@ impl Pair {
         let guest = self.lent.guest.bytes();
         if guest.len() >= GUEST_SIZE {
             expect("guest record", records::guest(guest), self.world.guest)?;
-            let due = self.world.model.service_due(&self.world.guest);
+            let due = self.world.model.guest_due(&self.world.guest);
             let due = due.map_or(NO_CALL, Next::Access);
             let given = calls::service_due(guest).next();
-            expect("service's access due", given, Some(due))?;
+            expect("guest's access due", given, Some(due))?;
+        }
+        Ok(())
+    }
+
+    /// A clear_mask's steps leave every byte of the guest's record but its own, and other steps of
+    /// the guest leave the clear_mask's. One that ends sets its stage to 0 and leaves its other
+    /// words.
+    pub(super) fn compare_clear_mask(&self, clears: bool, ended: bool) -> Result<(), String> {
+        let (bytes, kept) = (self.lent.guest.bytes(), &self.kept.guest[..]);
+        let others = 0..CLEAR_STAGE;
+        let own = CLEAR_STAGE..GUEST_SIZE;
+        if !clears {
+            let what = "a clear_mask's bytes";
+            return expect(what, &bytes[own.clone()], &kept[own]);
+        }
+        let what = "bytes that are no clear_mask's";
+        expect(what, &bytes[others.clone()], &kept[others])?;
+        if ended {
+            let what = "stage of an ended clear_mask";
+            expect(what, records::number(bytes, CLEAR_STAGE), 0)?;
+            let rest = CLEAR_STAGE + 4..GUEST_SIZE;
+            expect(
+                "words of an ended clear_mask",
+                &bytes[rest.clone()],
+                &kept[rest],
+            )?;
         }
         Ok(())
     }

@@ -1,20 +1,34 @@
 //! Counts of what a run met, and which of them must be met.
 
 use super::branches::{of_reply, of_service_reply, Point, POINTS};
+use super::clearing::{of_clear_reply, of_guest_step};
+use super::linking::of_refused;
 use super::pair::Before;
-use super::rows::{given, row, Row, GIVEN, NAMES_ACCESS, ROWS};
+use super::rows::{given, row, Ended, Row, GIVEN, NAMES_ACCESS, ROWS};
 use crate::model::machine::Stepped;
-use crate::model::{Next, Owner, Side, Step};
+use crate::model::{Answer, ClearMask, Next, Owner, Service, Side, Step};
 
 /// How often each must be met.
 pub const WANTED: u64 = 1_000;
 
 /// Places where a stored count is at its top value.
-const SATURATED: [&str; 4] = [
+const SATURATED: [&str; 6] = [
     "saturated count: in an answer of the hypervisor's",
     "saturated count: stays when its call names an access",
     "saturated count: in an answer of a service's",
     "saturated count: stays when a service names an access",
+    "saturated count: in an answer of a clear_mask's",
+    "saturated count: stays when a clear_mask names its cas",
+];
+
+/// The longest calls of runs from fresh records.
+const LONGEST: [&str; 6] = [
+    "from fresh records: an answer after twelve accesses",
+    "from fresh records: answer 2 after ten accesses",
+    "from fresh records: a call's answer after eleven",
+    "from fresh records: a service's answer after five",
+    "from fresh records: a clear_mask's answer after one",
+    "from fresh records: a clear_mask's answer after two",
 ];
 
 /// Slices that are longer than needed.
@@ -36,9 +50,12 @@ pub struct Coverage {
     points: Vec<u64>,
     saturated: [u64; SATURATED.len()],
     longer: [u64; LONGER.len()],
+    longest: [u64; LONGEST.len()],
     /// For each row, how often a refusal was given while the next one's line held too.
     pairs: [[u64; 8]; ROWS.len()],
-    ended: Owner,
+    ended: Ended,
+    /// The service that stood while a clear_mask ended.
+    waited: Option<Service>,
 }
 
 impl Default for Coverage {
@@ -49,8 +66,13 @@ impl Default for Coverage {
             points: vec![0; POINTS.len()],
             saturated: [0; SATURATED.len()],
             longer: [0; LONGER.len()],
+            longest: [0; LONGEST.len()],
             pairs: [[0; 8]; ROWS.len()],
-            ended: Owner::Bind,
+            ended: Ended {
+                owner: Owner::Bind,
+                clear_mask: false,
+            },
+            waited: None,
         }
     }
 }
@@ -66,10 +88,35 @@ impl Coverage {
                 self.note_reply(before, seen, stepped.next);
             }
             Step::Access(Side::Guest) | Step::HandBack(Side::Guest, _) => {
-                self.note_service_reply(before, seen, stepped.next);
+                self.note_guest_reply(before, seen, stepped.next);
             }
-            _ => {}
+            _ => {
+                let point = of_guest_step(&before.guest, step, stepped.next);
+                point.into_iter().for_each(|p| self.meet(p));
+            }
         }
+    }
+
+    /// Counts a step of a run from fresh records by how many accesses its call made.
+    /// `clearing`: whether a clear_mask was under way before it.
+    pub fn note_longest(&mut self, step: Step, clearing: bool, next: Next) {
+        let Next::Answer(answer, count) = next else {
+            return;
+        };
+        let guest = matches!(
+            step,
+            Step::Access(Side::Guest) | Step::HandBack(Side::Guest, _)
+        );
+        let met = match (guest, clearing, answer, count) {
+            (false, _, _, 12) => 0,
+            (false, _, Answer::LinkAbandoned, 10) => 1,
+            (false, _, _, 11) => 2,
+            (true, false, _, 5) => 3,
+            (true, true, _, 1) => 4,
+            (true, true, _, 2) => 5,
+            _ => return,
+        };
+        self.longest[met] += 1;
     }
 
     /// Counts a step's slices.
@@ -83,26 +130,61 @@ impl Coverage {
     }
 
     fn note_reply(&mut self, before: &Before, seen: u32, next: Next) {
-        let (Some(call), Some(entry)) = (before.domain.call, before.entry) else {
+        let Some(call) = before.domain.call else {
+            return;
+        };
+        let Some(entry) = before.entry else {
+            of_refused(&call).into_iter().for_each(|p| self.meet(p));
             return;
         };
         let points = of_reply(before, &call, entry, seen);
         points.into_iter().flatten().for_each(|p| self.meet(p));
         if let Next::Answer(..) = next {
-            self.ended = call.owner;
+            self.ended.owner = call.owner;
         }
         if call.count == u32::MAX {
             self.saturated[usize::from(is_access(next))] += 1;
         }
     }
 
-    fn note_service_reply(&mut self, before: &Before, seen: u32, next: Next) {
-        let Some(service) = before.guest.call else {
-            return;
-        };
+    fn note_guest_reply(&mut self, before: &Before, seen: u32, next: Next) {
+        match (before.guest.clearing, before.guest.call) {
+            (Some(clearing), service) => self.note_clear_reply(&clearing, service, seen, next),
+            (None, Some(service)) => self.note_service_reply(before, service, seen, next),
+            (None, None) => {}
+        }
+    }
+
+    fn note_service_reply(&mut self, before: &Before, service: Service, seen: u32, next: Next) {
         self.meet(of_service_reply(&before.guest, service.stage, seen));
+        if self.waited.take() == Some(service) {
+            self.meet(Point::ServiceGoesOn);
+        }
+        if let Next::Answer(..) = next {
+            self.ended.clear_mask = false;
+        }
         if service.count == u32::MAX {
             self.saturated[2 + usize::from(is_access(next))] += 1;
+        }
+    }
+
+    fn note_clear_reply(
+        &mut self,
+        clearing: &ClearMask,
+        service: Option<Service>,
+        seen: u32,
+        next: Next,
+    ) {
+        self.meet(of_clear_reply(clearing, seen));
+        if service.is_some() {
+            self.meet(Point::ServiceWaits);
+        }
+        if let Next::Answer(..) = next {
+            self.waited = service;
+            self.ended.clear_mask = true;
+        }
+        if clearing.count == u32::MAX {
+            self.saturated[4 + usize::from(is_access(next))] += 1;
         }
     }
 
@@ -122,6 +204,7 @@ impl Coverage {
         add_all(&mut self.points, &other.points);
         add_all(&mut self.saturated, &other.saturated);
         add_all(&mut self.longer, &other.longer);
+        add_all(&mut self.longest, &other.longest);
         add_all(self.pairs.as_flattened_mut(), other.pairs.as_flattened());
     }
 
@@ -147,6 +230,8 @@ impl Coverage {
         counts.extend(saturated.zip(self.saturated));
         let longer = LONGER.iter().map(|name| name.to_string());
         counts.extend(longer.zip(self.longer));
+        let longest = LONGEST.iter().map(|name| name.to_string());
+        counts.extend(longest.zip(self.longest));
         counts
     }
 }

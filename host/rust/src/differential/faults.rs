@@ -1,5 +1,5 @@
-//! The test of the tests: each fault of readings B3 and each cut of an argument, seeded in the
-//! model, makes it differ from the library.
+//! The test of the tests: each fault of a rule and each cut of an argument, seeded in the model,
+//! makes it differ from the library.
 
 use super::campaign::{Campaign, Difference, CAMPAIGNS};
 use super::coverage::Coverage;
@@ -7,7 +7,7 @@ use super::pair::Pair;
 use crate::model::{Faults, Model};
 
 /// Histories of each kind that are tried on a fault.
-const TRIED: [u64; CAMPAIGNS.len()] = [60, 100, 100, 5_000, 1_000];
+const TRIED: [u64; CAMPAIGNS.len()] = [60, 100, 100, 5_000, 100, 1_000];
 
 /// A fault with the first difference of each kind of history.
 pub struct Tried {

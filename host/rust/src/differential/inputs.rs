@@ -2,10 +2,10 @@
 
 use super::lent::odd_byte;
 use super::rows::Row;
-use crate::model::arbitrary::{self, flat_call, flat_service, with_bit_from};
+use crate::model::arbitrary::{self, flat_call, flat_clear, flat_service, with_bit_from};
 use crate::model::{
-    Call, Domain, Entry, FlatCall, Guest, Owner, Port, Queue, Service, ServiceStage, Side, Stage,
-    StageTag, Step,
+    Call, ClearMask, ClearStage, Domain, Entry, FlatCall, Guest, Owner, Port, Queue, Service,
+    ServiceStage, Side, Stage, StageTag, Step,
 };
 use crate::random::Random;
 
@@ -38,7 +38,7 @@ impl Input {
     pub fn new(random: &mut Random, row: Row, lines: Lines<'_>) -> Self {
         let mut input = Input {
             domain: domain(random, lines),
-            guest: guest(random, lines),
+            guest: guest(random, row, lines),
             ledger: Vec::new(),
             step: Step::Service,
         };
@@ -54,6 +54,8 @@ impl Input {
             Row::UnmaskReply => input.reply(random, lines, Owner::Unmask),
             Row::Service => {}
             Row::ServiceReply => input.service_reply(random, lines),
+            Row::ClearMask => input.clear_mask(random, lines),
+            Row::ClearMaskReply => input.clear_mask_reply(random, lines),
             Row::Mask => input.mask(random, lines),
             Row::Tell => input.step = Step::Tell(told(random)),
         }
@@ -152,9 +154,42 @@ impl Input {
             false => ServiceStage::G0,
         };
         let count = 1 + u32::from(at_g1);
+        self.guest.clearing = None;
         self.guest.call = (!lines.has(16)).then_some(Service { stage, count });
         let seen = if at_g1 { index } else { 0xFFFF << 16 };
         self.step = Step::HandBack(Side::Guest, seen);
+    }
+
+    fn clear_mask(&mut self, random: &mut Random, lines: Lines<'_>) {
+        let wide_port = with_bit_from(random, 17, 5);
+        let (port, words) = match (lines.has(3), lines.has(6)) {
+            (true, true) => random.pick(&[
+                (0, 0),
+                (PORT_LIMIT, 1 << 17),
+                (wide_port, 5),
+                (u64::MAX, u32::MAX),
+            ]),
+            (true, false) => {
+                random.pick(&[(0, 1), (0, 1024), (PORT_LIMIT, 131_073), (0, u32::MAX)])
+            }
+            (false, true) => random.pick(&[(1, 0), (1, 1), (1024, 1024), (131_071, 131_071)]),
+            (false, false) => random.pick(&[
+                (1, 2),
+                (1023, 1024),
+                (131_071, 131_072),
+                (131_071, u32::MAX),
+            ]),
+        };
+        self.guest.words = words;
+        self.step = Step::ClearMask(port);
+    }
+
+    /// Without 16 a clear_mask is under way, also where a service waits.
+    fn clear_mask_reply(&mut self, random: &mut Random, lines: Lines<'_>) {
+        let idle = lines.has(16);
+        self.guest.call = self.guest.call.filter(|_| !idle);
+        self.guest.clearing = (!idle).then(|| clearing(random));
+        self.step = Step::HandBack(Side::Guest, arbitrary::word(random));
     }
 
     fn mask(&mut self, random: &mut Random, lines: Lines<'_>) {
@@ -206,16 +241,39 @@ fn call(random: &mut Random) -> Call {
     })
 }
 
-/// A guest's record; a service is under way where 15 holds.
-fn guest(random: &mut Random, lines: Lines<'_>) -> Guest {
+/// A guest's record. Where 15 of a service holds, a service or a clear_mask is under way, or both;
+/// where that of a clear_mask does, a clear_mask, and a service or none.
+fn guest(random: &mut Random, row: Row, lines: Lines<'_>) -> Guest {
     let mut guest = arbitrary::guest(random);
+    if matches!(row, Row::Service | Row::ClearMask) {
+        guest.clearing = lines.has(15).then(|| clearing(random));
+    }
+    if row == Row::Service {
+        guest.call = lines.has(15).then(|| service(random));
+        match random.below(3) {
+            0 => guest.clearing = None,
+            1 if lines.has(15) => guest.call = None,
+            _ => {}
+        }
+    }
+    guest
+}
+
+fn service(random: &mut Random) -> Service {
     let flat = flat_service(random);
-    let idle = Service {
+    flat.service().unwrap_or(Service {
         stage: ServiceStage::G0,
         count: flat.count,
-    };
-    guest.call = lines.has(15).then(|| flat.service().unwrap_or(idle));
-    guest
+    })
+}
+
+fn clearing(random: &mut Random) -> ClearMask {
+    let flat = flat_clear(random);
+    flat.clear_mask().unwrap_or(ClearMask {
+        port: Port(flat.port),
+        stage: ClearStage::Read,
+        count: flat.count,
+    })
 }
 
 /// A frame and the frame count: 11 holds unless the frame is below.
@@ -322,6 +380,8 @@ fn reply_stage(random: &mut Random, owner: Owner) -> StageTag {
         StageTag::R4,
         StageTag::R5,
         StageTag::R6,
+        StageTag::SetBusy,
+        StageTag::ClearBusy,
     ]);
     match owner {
         Owner::Bind => StageTag::BindRead,

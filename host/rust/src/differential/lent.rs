@@ -84,6 +84,7 @@ pub fn uses(step: Step) -> Uses {
     match step {
         Step::Mask(_) | Step::MaskWithin { .. } => Uses::Nothing,
         Step::Service
+        | Step::ClearMask(_)
         | Step::Tell(_)
         | Step::Access(Side::Guest)
         | Step::HandBack(Side::Guest, _) => Uses::Guest,
@@ -155,6 +156,7 @@ impl Lent {
             Step::Raise(port) => calls::raise(domain, ledger, port),
             Step::Unmask(port) => calls::unmask(domain, ledger, port),
             Step::Service => calls::service(guest),
+            Step::ClearMask(port) => calls::clear_mask(guest, port),
             Step::Mask(port) => calls::mask(port, words),
             Step::MaskWithin { port, words } => calls::mask(port, words),
             Step::Tell(words) => calls::tell(guest, words),

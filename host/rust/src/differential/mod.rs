@@ -2,9 +2,10 @@
 //! gives or holds is compared after each.
 //!
 //! - `pair`, `lent`, `compare`: one world of the model beside the library's bytes
-//! - `rows`, `branches`, `coverage`: what a run met
-//! - `honest`, `hostile`, `refusals`, `arbitrary`, `stages`: one history each, from a seed;
-//!   `inputs`: what `refusals` tries
+//! - `rows`, `branches`, `coverage`: what a run met; `linking`, `clearing`: the branches of BUSY
+//!   and of clear_mask
+//! - `honest`, `hostile`, `refusals`, `arbitrary`, `rewritten`, `stages`: one history each, from a
+//!   seed; `inputs`: what `refusals` tries
 //! - `campaign`: many histories; `faults`: the test of the tests
 //! - `large`: slices of more than 2^32 bytes
 //! - `cables`: several domains and their cables, with histories and faults of their own
@@ -26,6 +27,7 @@ pub mod arbitrary;
 pub mod branches;
 pub mod cables;
 pub mod campaign;
+mod clearing;
 mod compare;
 pub mod coverage;
 pub mod faults;
@@ -34,7 +36,9 @@ pub mod hostile;
 pub mod inputs;
 pub mod large;
 pub mod lent;
+mod linking;
 pub mod pair;
 pub mod refusals;
+pub mod rewritten;
 pub mod rows;
 pub mod stages;

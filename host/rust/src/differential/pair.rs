@@ -159,10 +159,22 @@ impl Pair {
         let encoded = library(&mut self.lent, seen);
         let masked = matches!(step, Step::Mask(_) | Step::MaskWithin { .. });
         self.compare(masked, &stepped, encoded, port)
+            .and_then(|()| self.compare_guest(step, &before.guest, stepped.next))
             .map_err(|text| format!("{step:?}, word handed back {seen:08X}: {text}"))?;
         coverage.note(&before, step, seen, &stepped);
         coverage.note_step_slices(self.lent.longer());
         Ok(stepped)
+    }
+
+    /// The bytes of both calls of the guest's record, after a step of the guest's.
+    fn compare_guest(&self, step: Step, before: &Guest, next: Next) -> Result<(), String> {
+        if uses(step) != Uses::Guest {
+            return Ok(());
+        }
+        let replied = before.clearing.is_some() && is_reply(step);
+        let clears = replied || matches!(step, Step::ClearMask(_));
+        let ended = replied && matches!(next, Next::Answer(..));
+        self.compare_clear_mask(clears, ended)
     }
 
     /// Keeps the bytes of both records.
@@ -243,6 +255,10 @@ impl Pair {
         text.push_str(&log::log(&self.events));
         text
     }
+}
+
+fn is_reply(step: Step) -> bool {
+    matches!(step, Step::Access(_) | Step::HandBack(..))
 }
 
 /// The word that a step's reply hands back.

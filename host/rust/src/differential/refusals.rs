@@ -7,7 +7,7 @@ use super::inputs::{Input, Lines};
 use super::lent::edge;
 use super::pair::Pair;
 use super::rows::{given, Row, ROWS};
-use crate::boundary::records::{put_number, GIVEN, GUEST_STAGE, OWNER, STAGE};
+use crate::boundary::records::{put_number, CLEAR_STAGE, GIVEN, GUEST_STAGE, OWNER, STAGE};
 use crate::model::{Model, World};
 use crate::random::Random;
 
@@ -69,12 +69,16 @@ fn unlisted_codes(random: &mut Random, pair: &mut Pair) {
     }
     if pair.world.domain.call.is_none() {
         let (owner, stage) =
-            random.pick(&[(0, 0), (0, 3), (5, 1), (1 << 8, 0), (3, 6), (1, u32::MAX)]);
+            random.pick(&[(0, 0), (0, 3), (5, 1), (1 << 8, 0), (3, 8), (1, u32::MAX)]);
         put_number(domain, OWNER, owner);
         put_number(domain, STAGE, stage);
     }
     if pair.world.guest.call.is_none() {
         let stage = random.pick(&[0, 6, 256, u32::MAX]);
         put_number(pair.lent.guest.bytes_mut(), GUEST_STAGE, stage);
+    }
+    if pair.world.guest.clearing.is_none() {
+        let stage = random.pick(&[0, 3, 256, u32::MAX]);
+        put_number(pair.lent.guest.bytes_mut(), CLEAR_STAGE, stage);
     }
 }

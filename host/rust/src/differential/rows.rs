@@ -1,7 +1,7 @@
 //! The rows of readings A1: which call or reply a step is, and the numbers that each can give.
 
 use super::pair::Before;
-use crate::model::{Next, Owner, Side, Step};
+use crate::model::{Guest, Next, Owner, Side, Step};
 
 /// A row: a call's start, or the reply to it.
 #[derive(Clone, Copy, Debug, PartialEq, Eq)]
@@ -20,17 +20,19 @@ pub enum Row {
     UnmaskReply,
     Service,
     ServiceReply,
+    ClearMask,
+    ClearMaskReply,
     Mask,
     Tell,
 }
 
 /// In place of a number: an access is named.
-pub const NAMES_ACCESS: u32 = 22;
+pub const NAMES_ACCESS: u32 = 36;
 /// Number of things that a row can give.
 pub const GIVEN: usize = NAMES_ACCESS as usize + 1;
 
 /// Every row with its name and what it can give: refusals in their order, then the rest.
-pub const ROWS: [(Row, &str, &[u32]); 15] = [
+pub const ROWS: [(Row, &str, &[u32]); 17] = [
     (Row::InitControl, "init_control", &[15, 17, 9, 11, 12, 0]),
     (Row::ExpandArray, "expand_array", &[15, 10, 13, 11, 0]),
     (Row::Bind, "bind", &[15, 10, 3, 14, 5, 0, NAMES_ACCESS]),
@@ -56,13 +58,27 @@ pub const ROWS: [(Row, &str, &[u32]); 15] = [
         "reply to service",
         &[16, 18, 19, 20, 21, NAMES_ACCESS],
     ),
+    (Row::ClearMask, "clear_mask", &[15, 3, 6, NAMES_ACCESS]),
+    (
+        Row::ClearMaskReply,
+        "reply to clear_mask",
+        &[16, 0, 35, NAMES_ACCESS],
+    ),
     (Row::Mask, "mask", &[3, 6, 0]),
     (Row::Tell, "tell", &[0]),
 ];
 
-/// The row of a step. A reply with no call under way belongs to the hypervisor's call that ended
-/// last.
-pub fn row(before: &Before, step: Step, ended: Owner) -> Row {
+/// The calls of both sides that ended last: a reply with no call under way belongs to its side's.
+#[derive(Clone, Copy, Debug)]
+pub struct Ended {
+    /// The hypervisor's call.
+    pub owner: Owner,
+    /// Whether the guest's was a clear_mask, no service.
+    pub clear_mask: bool,
+}
+
+/// The row of a step.
+pub fn row(before: &Before, step: Step, ended: Ended) -> Row {
     match step {
         Step::InitControl { .. } => Row::InitControl,
         Step::ExpandArray { .. } => Row::ExpandArray,
@@ -72,12 +88,23 @@ pub fn row(before: &Before, step: Step, ended: Owner) -> Row {
         Step::Raise(_) => Row::Raise,
         Step::Unmask(_) => Row::Unmask,
         Step::Service => Row::Service,
+        Step::ClearMask(_) => Row::ClearMask,
         Step::Mask(_) | Step::MaskWithin { .. } => Row::Mask,
         Step::Tell(_) => Row::Tell,
-        Step::Access(Side::Guest) | Step::HandBack(Side::Guest, _) => Row::ServiceReply,
-        Step::Access(Side::Hypervisor) | Step::HandBack(Side::Hypervisor, _) => {
-            reply_row(before.domain.call.map_or(ended, |call| call.owner))
+        Step::Access(Side::Guest) | Step::HandBack(Side::Guest, _) => {
+            guest_reply_row(&before.guest, ended.clear_mask)
         }
+        Step::Access(Side::Hypervisor) | Step::HandBack(Side::Hypervisor, _) => {
+            reply_row(before.domain.call.map_or(ended.owner, |call| call.owner))
+        }
+    }
+}
+
+fn guest_reply_row(guest: &Guest, ended: bool) -> Row {
+    let idle = !guest.is_under_way();
+    match guest.clearing.is_some() || (idle && ended) {
+        true => Row::ClearMaskReply,
+        false => Row::ServiceReply,
     }
 }
 

@@ -5,14 +5,16 @@ use super::coverage::Coverage;
 use super::pair::Pair;
 use crate::model::arbitrary::word;
 use crate::model::{
-    Domain, Entry, FlatCall, FlatService, Guest, Model, Owner, ServiceTag, Side, Stage, StageTag,
-    Step, World,
+    ClearStage, ClearTag, Domain, Entry, FlatCall, FlatClear, FlatService, Guest, Model, Owner,
+    ServiceTag, Side, Stage, StageTag, Step, World,
 };
 use crate::random::Random;
 
-const LENGTH: usize = 24;
+const LENGTH: usize = 32;
+const BUSY: u32 = 1 << 28;
 const LINKED: u32 = 1 << 29;
 const MASKED: u32 = 1 << 30;
+const PENDING: u32 = 1 << 31;
 const PORTS: [u32; 8] = [1, 2, 5, 9, 40, 1023, 1024, 1030];
 /// Few queues, so that a port's priority and its last queue often are the same.
 const QUEUES: [u16; 4] = [0, 7, 7, 15];
@@ -43,7 +45,7 @@ pub fn history(
 }
 
 fn under_way(world: &World) -> bool {
-    world.domain.call.is_some() || world.guest.call.is_some()
+    world.domain.call.is_some() || world.guest.is_under_way()
 }
 
 /// A raise or unmask of the port; tails that are the port, others, outside or none.
@@ -83,7 +85,7 @@ fn ledger(random: &mut Random, port: u32) -> Vec<Entry> {
     ledger
 }
 
-/// A service at any stage; heads that are inside, outside or none.
+/// A service at any stage, often with a clear_mask; heads that are inside, outside or none.
 fn guest(random: &mut Random) -> Guest {
     let mut heads = [0; 16];
     for head in &mut heads {
@@ -107,6 +109,16 @@ fn guest(random: &mut Random) -> Guest {
         local: random.pick(&[0, 1 << 7, 0x8001, 0xFFFF_0000]),
         words: 1024,
         call: service.service(),
+        clearing: clearing(random).clear_mask(),
+    }
+}
+
+fn clearing(random: &mut Random) -> FlatClear {
+    FlatClear {
+        stage: random.pick(&[None, Some(ClearTag::Read), Some(ClearTag::Read)]),
+        port: random.pick(&PORTS),
+        word: 0,
+        count: random.pick(&COUNTS),
     }
 }
 
@@ -116,22 +128,36 @@ fn hypervisor_word(random: &mut Random, world: &World) -> u32 {
     match world.domain.call.map(|call| call.stage) {
         Some(Stage::R2) if !random.once_in(8) => any & !LINKED,
         Some(Stage::R1) if !random.once_in(3) => any & !(LINKED | MASKED),
-        Some(Stage::R3 { .. }) if !random.once_in(8) => any | LINKED,
-        Some(Stage::R4 { old, .. }) => match random.below(8) {
+        Some(Stage::R3 { .. } | Stage::SetBusy { .. }) if !random.once_in(8) => any | LINKED,
+        Some(Stage::R4 { old, .. }) => match random.below(10) {
             0 | 1 => old,
             2 => any & !LINKED,
-            _ => any | LINKED,
+            3 => any | LINKED,
+            _ => any | LINKED | BUSY,
         },
         _ => any,
     }
 }
 
-/// READY's bits, an index, or an event word.
+/// For a clear_mask a word that mostly leads it on; else READY's bits, an index, or an event word.
 fn guest_word(random: &mut Random, guest: &Guest) -> u32 {
+    if let Some(clearing) = guest.clearing {
+        return clearing_word(random, clearing.stage);
+    }
     match (guest.call, random.below(4)) {
         (None, _) => random.word(),
         (_, 0) => random.pick(&[0, 5, 1023, 1024, 0x1_0005, 0x2_0005]),
         (_, 1) => 1 << random.below(32),
         _ => word(random),
+    }
+}
+
+/// A cas's word is the old one with a bit more or less, or none.
+fn clearing_word(random: &mut Random, stage: ClearStage) -> u32 {
+    let any = word(random);
+    match stage {
+        ClearStage::Read if random.once_in(2) => any & !(PENDING | BUSY) | MASKED,
+        ClearStage::Read => any,
+        ClearStage::Cas { old } => old ^ random.pick(&[0, 0, PENDING, MASKED, LINKED, BUSY, 1]),
     }
 }

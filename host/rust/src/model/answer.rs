@@ -1,9 +1,9 @@
-//! Answers with document 01's numbers and values, and what a call or reply gives.
+//! Answers with the documents' numbers and values, and what a call or reply gives.
 
 use super::access::Access;
 use super::kinds::Port;
 
-/// Every answer of document 01's table.
+/// Every answer of document 01's table, and clear_mask's 35.
 #[derive(Clone, Copy, Debug, PartialEq, Eq)]
 pub enum Answer {
     /// 0: done.
@@ -12,7 +12,7 @@ pub enum Answer {
     DoneLinkBits(u32),
     /// 1: done, upcall wanted.
     UpcallWanted,
-    /// 2: done, link abandoned after four tries.
+    /// 2: done, link abandoned after five tries.
     LinkAbandoned,
     /// 3: port 0 or at least 131,072.
     BadPort,
@@ -52,10 +52,12 @@ pub enum Answer {
     Idle,
     /// 21: taken, not handed over.
     NotHandedOver(Port),
+    /// 35: call unmask.
+    CallUnmask,
 }
 
 impl Answer {
-    /// The number in document 01's table.
+    /// The number in the documents.
     pub fn number(self) -> u32 {
         match self {
             Answer::Done | Answer::DoneLinkBits(_) => 0,
@@ -80,6 +82,7 @@ impl Answer {
             Answer::HandedOver(_) => 19,
             Answer::Idle => 20,
             Answer::NotHandedOver(_) => 21,
+            Answer::CallUnmask => 35,
         }
     }
 

@@ -2,13 +2,13 @@
 
 use super::domain::{Domain, Owner, Stage};
 use super::entry::Entry;
-use super::flat::{FlatCall, FlatService, ServiceTag, StageTag};
-use super::guest::Guest;
+use super::flat::{ClearTag, FlatCall, FlatClear, FlatService, ServiceTag, StageTag};
+use super::guest::{ClearStage, Guest};
 use super::machine::{Memory, Side, Step, World};
 use super::Model;
 use crate::random::Random;
 
-const STAGES: [StageTag; 9] = [
+const STAGES: [StageTag; 12] = [
     StageTag::BindRead,
     StageTag::CloseAnd,
     StageTag::R1,
@@ -16,8 +16,11 @@ const STAGES: [StageTag; 9] = [
     StageTag::R2,
     StageTag::R3,
     StageTag::R4,
+    StageTag::R4,
     StageTag::R5,
     StageTag::R6,
+    StageTag::SetBusy,
+    StageTag::ClearBusy,
 ];
 const SERVICES: [Option<ServiceTag>; 7] = [
     None,
@@ -28,6 +31,7 @@ const SERVICES: [Option<ServiceTag>; 7] = [
     Some(ServiceTag::G3),
     Some(ServiceTag::G4),
 ];
+const CLEARS: [Option<ClearTag>; 5] = [None, None, None, Some(ClearTag::Read), Some(ClearTag::Cas)];
 const OWNERS: [Option<Owner>; 7] = [
     None,
     None,
@@ -54,11 +58,14 @@ const PORTS: [u32; 14] = [
     u32::MAX,
 ];
 const SMALL_PORTS: [u32; 5] = [0, 1, 2, 5, 9];
+const PENDING: u32 = 0x8000_0000;
 const MASKED: u32 = 0x4000_0000;
 const LINKED: u32 = 0x2000_0000;
+const BUSY: u32 = 0x1000_0000;
 /// Entries of bound and unbound ports on queues 0 and 7.
 const ENTRIES: [u16; 7] = [0x0007, 0x0107, 0x0100, 0x0377, 0x0370, 0x0307, 0x0300];
-const COUNTS: [u32; 6] = [0, 1, 4, 9, u32::MAX - 1, u32::MAX];
+const COUNTS: [u32; 6] = [0, 1, 4, 12, u32::MAX - 1, u32::MAX];
+const TRIES: [u32; 9] = [0, 1, 2, 3, 4, 5, 5, 6, u32::MAX];
 
 /// A port, mostly small.
 pub fn port(random: &mut Random) -> u32 {
@@ -71,11 +78,11 @@ pub fn port(random: &mut Random) -> u32 {
 
 /// An event word: flags mostly, with any reserved bits and LINK at times.
 pub fn word(random: &mut Random) -> u32 {
-    let flags = (random.below(8) as u32) << 29;
+    let flags = (random.below(16) as u32) << 28;
     match random.below(4) {
         0 => random.word(),
         1 => flags | random.pick(&[0, 5, 9, 0x1_FFFF, 0x1_0005]),
-        2 => flags | (random.word() & 0x1FFF_FFFF),
+        2 => flags | (random.word() & 0x0FFF_FFFF),
         _ => flags,
     }
 }
@@ -104,7 +111,7 @@ pub fn flat_call(random: &mut Random) -> FlatCall {
         port: port(random),
         queue: queue(random),
         word: word(random),
-        tries: random.pick(&[0, 1, 2, 3, 4, 5, u32::MAX]),
+        tries: random.pick(&TRIES),
         count: random.pick(&COUNTS),
     }
 }
@@ -115,6 +122,16 @@ pub fn flat_service(random: &mut Random) -> FlatService {
         stage: random.pick(&SERVICES),
         port: port(random),
         queue: queue(random),
+        count: random.pick(&COUNTS),
+    }
+}
+
+/// A flat clear_mask under way with any fields.
+pub fn flat_clear(random: &mut Random) -> FlatClear {
+    FlatClear {
+        stage: random.pick(&CLEARS),
+        port: port(random),
+        word: word(random),
         count: random.pick(&COUNTS),
     }
 }
@@ -141,6 +158,7 @@ pub fn guest(random: &mut Random) -> Guest {
         local,
         words: random.pick(&[0, 10, 1024, 2048, 131_072, 200_000, u32::MAX]),
         call: flat_service(random).service(),
+        clearing: flat_clear(random).clear_mask(),
     }
 }
 
@@ -173,14 +191,15 @@ pub fn world(random: &mut Random, model: Model) -> World {
 
 /// The world's next step: mostly replies, with words that need not be those in memory.
 pub fn hostile_step(random: &mut Random, world: &World) -> Step {
-    match random.below(20) {
-        0..=5 => Step::HandBack(Side::Hypervisor, hypervisor_word(random, world)),
-        6..=9 => Step::HandBack(Side::Guest, word_or_index(random)),
-        10 => Step::Access(Side::Hypervisor),
-        11 => Step::Access(Side::Guest),
-        12 => Step::Service,
-        13 => mask(random),
-        14 => Step::Tell(words(random)),
+    match random.below(22) {
+        0..=6 => Step::HandBack(Side::Hypervisor, hypervisor_word(random, world)),
+        7..=10 => Step::HandBack(Side::Guest, guest_word(random, world)),
+        11 => Step::Access(Side::Hypervisor),
+        12 => Step::Access(Side::Guest),
+        13 => Step::Service,
+        14 => Step::ClearMask(port_argument(random)),
+        15 => mask(random),
+        16 => Step::Tell(words(random)),
         _ => start(random),
     }
 }
@@ -195,9 +214,22 @@ fn hypervisor_word(random: &mut Random, world: &World) -> u32 {
         old,
     ) {
         (0, _, Some(old)) => old,
-        (1..=2, Some(Stage::R3 { .. } | Stage::R4 { .. }), _) => any | LINKED,
+        (1..=2, Some(Stage::R3 { .. } | Stage::R4 { .. } | Stage::SetBusy { .. }), _) => {
+            any | LINKED
+        }
         (1..=2, Some(Stage::R1 | Stage::U1 | Stage::R2), _) => any & !(LINKED | MASKED),
         _ => any,
+    }
+}
+
+/// A word for the guest: for a clear_mask often one that leads it on, or that takes its cas.
+fn guest_word(random: &mut Random, world: &World) -> u32 {
+    let stage = world.guest.clearing.map(|clearing| clearing.stage);
+    match (random.below(4), stage) {
+        (0..=1, Some(ClearStage::Read)) => word(random) & !(PENDING | BUSY) | MASKED,
+        (2, Some(ClearStage::Read)) => word(random) | MASKED,
+        (0..=1, Some(ClearStage::Cas { old })) => old,
+        _ => word_or_index(random),
     }
 }
 

@@ -37,10 +37,22 @@ pub enum Stage {
     R4 {
         /// Kept from R2 on.
         queue: Queue,
-        /// The latest word seen.
+        /// The word compared with: the latest one seen; after SetBusy the one that it left.
         old: u32,
         /// Number of cas named so far.
         tries: u32,
+    },
+    /// Or BUSY into the tail's word, after a first cas that was not taken and kept LINKED.
+    SetBusy {
+        /// Kept from R2 on.
+        queue: Queue,
+    },
+    /// And the tail's word with all but BUSY, before HEAD or before answer 2.
+    ClearBusy {
+        /// Kept from R2 on.
+        queue: Queue,
+        /// The latest word seen before: LINKED in it gives 2.
+        word: u32,
     },
     /// R5: store HEAD.
     R5 {
@@ -113,8 +125,18 @@ impl Call {
     pub fn holds_linked(&self) -> bool {
         let linked = match self.stage {
             Stage::R3 { .. } | Stage::R4 { .. } | Stage::R5 { .. } | Stage::R6 { .. } => true,
+            Stage::SetBusy { .. } | Stage::ClearBusy { .. } => true,
             Stage::BindRead | Stage::CloseAnd | Stage::R1 | Stage::U1 | Stage::R2 => false,
         };
         self.holds() && linked
+    }
+
+    /// The queue whose tail's word has BUSY by this call: from the or on, up to its clearing.
+    pub fn busy_queue(&self) -> Option<Queue> {
+        match self.stage {
+            Stage::R4 { queue, tries, .. } if tries > 1 => Some(queue),
+            Stage::ClearBusy { queue, .. } => Some(queue),
+            _ => None,
+        }
     }
 }

@@ -1,7 +1,7 @@
 //! The calls under way as flat records: every field present, whatever the stage needs.
 
 use super::domain::{Call, Owner, Stage};
-use super::guest::{Service, ServiceStage};
+use super::guest::{ClearMask, ClearStage, Service, ServiceStage};
 use super::kinds::{Port, Queue};
 
 /// The hypervisor's stages without data.
@@ -17,6 +17,8 @@ pub enum StageTag {
     R4,
     R5,
     R6,
+    SetBusy,
+    ClearBusy,
 }
 
 /// The service's stages without data.
@@ -30,6 +32,14 @@ pub enum ServiceTag {
     G4,
 }
 
+/// The clear_mask's stages without data.
+#[derive(Clone, Copy, Debug, PartialEq, Eq)]
+#[allow(missing_docs)]
+pub enum ClearTag {
+    Read,
+    Cas,
+}
+
 /// A call under way as a flat record.
 #[derive(Clone, Copy, Debug, PartialEq, Eq)]
 pub struct FlatCall {
@@ -41,7 +51,7 @@ pub struct FlatCall {
     pub port: u32,
     /// Needed from R3 on.
     pub queue: u32,
-    /// Needed by R4: the latest word seen.
+    /// Needed by R4: the word compared with; by ClearBusy: the latest word seen before it.
     pub word: u32,
     /// Needed by R4: number of cas named so far.
     pub tries: u32,
@@ -58,6 +68,19 @@ pub struct FlatService {
     pub port: u32,
     /// Needed by G1 and G2.
     pub queue: u32,
+    /// Number of accesses named so far.
+    pub count: u32,
+}
+
+/// A clear_mask under way as a flat record.
+#[derive(Clone, Copy, Debug, PartialEq, Eq)]
+pub struct FlatClear {
+    /// None: no clear_mask under way.
+    pub stage: Option<ClearTag>,
+    /// Needed by both stages.
+    pub port: u32,
+    /// Needed by the cas: the word compared with.
+    pub word: u32,
     /// Number of accesses named so far.
     pub count: u32,
 }
@@ -80,6 +103,11 @@ impl FlatCall {
             },
             StageTag::R5 => Stage::R5 { queue },
             StageTag::R6 => Stage::R6 { queue },
+            StageTag::SetBusy => Stage::SetBusy { queue },
+            StageTag::ClearBusy => Stage::ClearBusy {
+                queue,
+                word: self.word,
+            },
         };
         Some(Call {
             owner: self.owner?,
@@ -107,46 +135,52 @@ impl FlatService {
     }
 }
 
+impl FlatClear {
+    /// The clear_mask that the flat record stands for.
+    pub fn clear_mask(&self) -> Option<ClearMask> {
+        let stage = match self.stage? {
+            ClearTag::Read => ClearStage::Read,
+            ClearTag::Cas => ClearStage::Cas { old: self.word },
+        };
+        Some(ClearMask {
+            port: Port(self.port),
+            stage,
+            count: self.count,
+        })
+    }
+}
+
+/// A stage without its data, then its queue, word and tries; 0 where it needs none.
+fn parts(stage: Stage) -> (StageTag, Queue, u32, u32) {
+    let none = Queue(0);
+    match stage {
+        Stage::BindRead => (StageTag::BindRead, none, 0, 0),
+        Stage::CloseAnd => (StageTag::CloseAnd, none, 0, 0),
+        Stage::R1 => (StageTag::R1, none, 0, 0),
+        Stage::U1 => (StageTag::U1, none, 0, 0),
+        Stage::R2 => (StageTag::R2, none, 0, 0),
+        Stage::R3 { queue } => (StageTag::R3, queue, 0, 0),
+        Stage::R4 { queue, old, tries } => (StageTag::R4, queue, old, tries),
+        Stage::R5 { queue } => (StageTag::R5, queue, 0, 0),
+        Stage::R6 { queue } => (StageTag::R6, queue, 0, 0),
+        Stage::SetBusy { queue } => (StageTag::SetBusy, queue, 0, 0),
+        Stage::ClearBusy { queue, word } => (StageTag::ClearBusy, queue, word, 0),
+    }
+}
+
 impl From<Option<Call>> for FlatCall {
     /// The flat record of a call; the fields that its stage does not need are 0.
     fn from(call: Option<Call>) -> Self {
-        let none = FlatCall {
-            owner: None,
-            stage: StageTag::BindRead,
-            port: 0,
-            queue: 0,
-            word: 0,
-            tries: 0,
-            count: 0,
-        };
-        let Some(call) = call else {
-            return none;
-        };
-        let flat = FlatCall {
-            owner: Some(call.owner),
-            port: call.port.0,
-            count: call.count,
-            ..none
-        };
-        let on_queue = |stage, queue: Queue| FlatCall {
+        let stage = call.map_or(Stage::BindRead, |call| call.stage);
+        let (stage, queue, word, tries) = parts(stage);
+        FlatCall {
+            owner: call.map(|call| call.owner),
             stage,
+            port: call.map_or(0, |call| call.port.0),
             queue: queue.0,
-            ..flat
-        };
-        match call.stage {
-            Stage::BindRead => on_queue(StageTag::BindRead, Queue(0)),
-            Stage::CloseAnd => on_queue(StageTag::CloseAnd, Queue(0)),
-            Stage::R1 => on_queue(StageTag::R1, Queue(0)),
-            Stage::U1 => on_queue(StageTag::U1, Queue(0)),
-            Stage::R2 => on_queue(StageTag::R2, Queue(0)),
-            Stage::R3 { queue } => on_queue(StageTag::R3, queue),
-            Stage::R4 { queue, old, tries } => FlatCall {
-                word: old,
-                tries,
-                ..on_queue(StageTag::R4, queue)
-            },
-            Stage::R5 { queue } => on_queue(StageTag::R5, queue),
-            Stage::R6 { queue } => on_queue(StageTag::R6, queue),
+            word,
+            tries,
+            count: call.map_or(0, |call| call.count),
         }
     }
 }
@@ -169,6 +203,25 @@ impl From<Option<Service>> for FlatService {
             ServiceStage::G2 { queue, port } => flat(Some(ServiceTag::G2), port.0, queue.0, count),
             ServiceStage::G3 { port } => flat(Some(ServiceTag::G3), port.0, 0, count),
             ServiceStage::G4 { port } => flat(Some(ServiceTag::G4), port.0, 0, count),
+        }
+    }
+}
+
+impl From<Option<ClearMask>> for FlatClear {
+    /// The flat record of a clear_mask; the word of its read is 0.
+    fn from(clearing: Option<ClearMask>) -> Self {
+        let flat = |stage, port, word, count| FlatClear {
+            stage,
+            port,
+            word,
+            count,
+        };
+        let Some(ClearMask { port, stage, count }) = clearing else {
+            return flat(None, 0, 0, 0);
+        };
+        match stage {
+            ClearStage::Read => flat(Some(ClearTag::Read), port.0, 0, count),
+            ClearStage::Cas { old } => flat(Some(ClearTag::Cas), port.0, old, count),
         }
     }
 }

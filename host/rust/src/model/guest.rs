@@ -1,4 +1,4 @@
-//! The guest's record and its service under way.
+//! The guest's record, its service under way and its clear_mask under way.
 
 use super::kinds::{Port, Queue, QUEUES};
 
@@ -40,6 +40,29 @@ pub struct Service {
     pub count: u32,
 }
 
+/// The access that a clear_mask waits for.
+#[derive(Clone, Copy, Debug, PartialEq, Eq, Hash)]
+pub enum ClearStage {
+    /// Read the word.
+    Read,
+    /// The cas that clears MASKED.
+    Cas {
+        /// The word that the read saw.
+        old: u32,
+    },
+}
+
+/// A clear_mask under way.
+#[derive(Clone, Copy, Debug, PartialEq, Eq, Hash)]
+pub struct ClearMask {
+    /// Its port.
+    pub port: Port,
+    /// Where it stands.
+    pub stage: ClearStage,
+    /// Number of accesses named so far.
+    pub count: u32,
+}
+
 /// The guest's record.
 #[derive(Clone, Copy, Debug, PartialEq, Eq, Hash)]
 pub struct Guest {
@@ -51,6 +74,8 @@ pub struct Guest {
     pub words: u32,
     /// The service under way.
     pub call: Option<Service>,
+    /// The clear_mask under way: until its answer all the guest's replies are its own.
+    pub clearing: Option<ClearMask>,
 }
 
 impl Guest {
@@ -60,7 +85,13 @@ impl Guest {
         local: 0,
         words: 0,
         call: None,
+        clearing: None,
     };
+
+    /// Whether a service or a clear_mask is under way.
+    pub fn is_under_way(&self) -> bool {
+        self.call.is_some() || self.clearing.is_some()
+    }
 
     /// The port that a service holds: from G2 to its answer.
     pub fn held(&self) -> Option<Port> {

@@ -1,6 +1,7 @@
 //! Random steps of a list in which the guest keeps the rules.
 
-use super::domain::PAGE_WORDS;
+use super::decisions::queue_value;
+use super::domain::{Stage, PAGE_WORDS};
 use super::machine::{Side, Step, World};
 use super::Model;
 use crate::random::Random;
@@ -31,6 +32,8 @@ pub struct Honest {
     priorities: Vec<u64>,
     /// One in how many chances the guest takes to start a service.
     idle_guest: u64,
+    /// One in how many accesses to a tail's word the guest comes before, on that word.
+    meets: u64,
 }
 
 impl Honest {
@@ -42,6 +45,7 @@ impl Honest {
             ports: (0..ports).map(|_| random.pick(&PORTS)).collect(),
             priorities: (0..priorities).map(|_| random.pick(&PRIORITIES)).collect(),
             idle_guest: 1 + random.below(6),
+            meets: 2 + random.below(3),
         }
     }
 
@@ -82,8 +86,11 @@ impl Honest {
             let smaller = random.below(words);
             return Step::Tell(random.pick(&[words, words, smaller]));
         }
+        if let Some(tail) = linking_at(world).filter(|_| random.once_in(self.meets)) {
+            return self.meet(random, world, tail);
+        }
         let busy = world.due(Side::Hypervisor).is_some() && !random.once_in(4);
-        match random.below(100) {
+        match random.below(102) {
             65..=71 | 75..=79 | 82..=96 if busy => Step::Access(Side::Hypervisor),
             0..=34 => self.next_access(random, world, Side::Hypervisor),
             35..=64 => self.next_access(random, world, Side::Guest),
@@ -97,7 +104,17 @@ impl Honest {
             96 => expand(random, world),
             97 => Step::Tell(random.below(words + 1)),
             98 => init(random),
+            99..=100 => Step::ClearMask(self.port(random)),
             _ => idle_reply(random, world),
+        }
+    }
+
+    /// The guest on the word of the hypervisor's tail: it changes MASKED, or goes on.
+    fn meet(&self, random: &mut Random, world: &World, tail: u64) -> Step {
+        match random.below(6) {
+            0 | 1 => Step::Mask(tail),
+            2 | 3 if world.guest.clearing.is_none() => Step::ClearMask(tail),
+            _ => self.next_access(random, world, Side::Guest),
         }
     }
 
@@ -139,6 +156,17 @@ impl Honest {
         };
         Step::SetPriority { port, priority }
     }
+}
+
+/// The port of the tail whose word the hypervisor's call is about to change.
+fn linking_at(world: &World) -> Option<u64> {
+    let queue = match world.domain.call?.stage {
+        Stage::R4 { queue, .. } | Stage::SetBusy { queue } | Stage::ClearBusy { queue, .. } => {
+            queue
+        }
+        _ => return None,
+    };
+    Some(queue_value(&world.domain.tails, queue).into())
 }
 
 /// Few expands succeed, so that the array stays small.

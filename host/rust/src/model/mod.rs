@@ -1,10 +1,11 @@
 //! The independent model: documents 01 and 02 in plain Rust, with its own data structures.
 //!
 //! - words and records: `kinds`, `word`, `entry`, `access`, `answer`, `domain`, `guest`, `flat`
-//! - rules: `starts` and `replies` (hypervisor), `service` (guest), `decisions`, `seeded`
+//! - rules: `starts`, `replies` and `linking` (hypervisor), `service` and `clear_mask` (guest),
+//!   `decisions`, `seeded`
 //! - `machine`: both sides' steps over lent memory; `log`: lines of the access log, both ways;
 //!   `replay`: a log played back; `cables`: forty domains and the cables between them
-//! - `claims`: demand 3's four parts and the account of PENDING
+//! - `claims`: demand 3's four parts, where BUSY stands, and the account of PENDING
 //! - `histories`, `arbitrary`: random rule-keeping steps, random records
 
 pub mod access;
@@ -12,6 +13,7 @@ pub mod answer;
 pub mod arbitrary;
 pub mod cables;
 pub mod claims;
+mod clear_mask;
 pub mod decisions;
 pub mod domain;
 pub mod entry;
@@ -19,6 +21,7 @@ pub mod flat;
 pub mod guest;
 pub mod histories;
 pub mod kinds;
+mod linking;
 pub mod log;
 pub mod machine;
 pub mod replay;
@@ -32,14 +35,14 @@ pub use access::{Access, Op, Place};
 pub use answer::{Answer, Masking, Next};
 pub use domain::{Call, Domain, Owner, Stage};
 pub use entry::Entry;
-pub use flat::{FlatCall, FlatService, ServiceTag, StageTag};
-pub use guest::{Guest, Service, ServiceStage};
+pub use flat::{ClearTag, FlatCall, FlatClear, FlatService, ServiceTag, StageTag};
+pub use guest::{ClearMask, ClearStage, Guest, Service, ServiceStage};
 pub use kinds::{Port, Priority, Queue};
 pub use machine::{Event, Memory, Side, Step, World};
 pub use seeded::Faults;
 pub use word::EventWord;
 
-/// The rules of document 01, with at most one fault seeded.
+/// The rules of both documents for one domain, with at most one fault seeded.
 #[derive(Clone, Copy, Debug, Default, PartialEq, Eq)]
 pub struct Model {
     fault: Faults,

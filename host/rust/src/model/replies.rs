@@ -1,4 +1,5 @@
-//! The replies to the hypervisor's calls: one function a stage, R1 to R6, U1, bind, close.
+//! The replies to the hypervisor's calls: one function a stage, R1 to R6, U1, bind, close; those
+//! on the tail's word are in `linking`.
 
 use super::access::{Access, Op};
 use super::answer::{Answer, Next};
@@ -6,6 +7,7 @@ use super::decisions::{head_place, one_more, set_queue_value, tail_place};
 use super::domain::{Call, Domain, Stage};
 use super::entry::Entry;
 use super::kinds::{Port, Queue};
+use super::linking::{r3, set_tail, Try};
 use super::word::EventWord;
 use super::Model;
 
@@ -15,7 +17,7 @@ const LINKED: u32 = 0x2000_0000;
 const ALL_BUT_PENDING: u32 = 0x7FFF_FFFF;
 
 /// What a stage's reply leads to.
-enum Outcome {
+pub(super) enum Outcome {
     /// The next access is that of this stage.
     Go(Stage),
     /// The call ends.
@@ -40,10 +42,11 @@ impl Model {
             Stage::U1 => Access::word(port, Op::And(self.u1_operand())),
             Stage::R2 => Access::word(port, Op::Or(LINKED)),
             Stage::R3 { queue } => Access::at(tail_place(domain, queue), Op::Read),
-            Stage::R4 { queue, old, .. } => {
-                let new = self.linking_word(old, port);
-                Access::at(tail_place(domain, queue), Op::Cas { old, new })
+            Stage::R4 { queue, old, tries } => {
+                self.cas_access(domain, port, Try { queue, old, tries })
             }
+            Stage::SetBusy { queue } => self.set_busy_access(domain, queue),
+            Stage::ClearBusy { queue, word } => self.clear_busy_access(domain, port, queue, word),
             Stage::R5 { queue } => {
                 let value = self.head_value(domain, queue, port);
                 Access::at(head_place(queue), Op::Store(value))
@@ -98,7 +101,11 @@ impl Model {
             Stage::R2 => self.r2(domain, entry, call.port, word),
             Stage::R3 { queue } => r3(queue, seen),
             Stage::R4 { queue, old, tries } => {
-                self.r4(domain, call.port, queue, old == seen, tries, seen)
+                self.r4(domain, call.port, Try { queue, old, tries }, seen)
+            }
+            Stage::SetBusy { queue } => self.set_busy(domain, call.port, queue, seen),
+            Stage::ClearBusy { queue, word } => {
+                self.clear_busy(domain, call.port, (queue, word), seen)
             }
             Stage::R5 { queue } => {
                 set_tail(domain, queue, call.port);
@@ -124,34 +131,6 @@ impl Model {
             Some(tail) if tail != port => Go(Stage::R3 { queue }),
             _ => Go(Stage::R5 { queue }),
         }
-    }
-
-    /// R4: taken; lost LINKED; fourth try; next try, in this order.
-    fn r4(
-        &self,
-        domain: &mut Domain,
-        port: Port,
-        queue: Queue,
-        taken: bool,
-        tries: u32,
-        seen: u32,
-    ) -> Outcome {
-        if taken {
-            set_tail(domain, queue, port);
-            return End(Answer::Done);
-        }
-        if !EventWord::from_bits(seen).linked {
-            return Go(Stage::R5 { queue });
-        }
-        if self.tries_spent(tries) {
-            set_tail(domain, queue, port);
-            return End(Answer::LinkAbandoned);
-        }
-        Go(Stage::R4 {
-            queue,
-            old: seen,
-            tries: tries + 1,
-        })
     }
 
     /// R6: an upcall is wanted if the queue's bit was clear.
@@ -189,21 +168,4 @@ fn u1(word: EventWord) -> Outcome {
     } else {
         End(Answer::Done)
     }
-}
-
-/// R3: a tail that is not LINKED leads to R5, else the first cas.
-fn r3(queue: Queue, seen: u32) -> Outcome {
-    if EventWord::from_bits(seen).linked {
-        Go(Stage::R4 {
-            queue,
-            old: seen,
-            tries: 1,
-        })
-    } else {
-        Go(Stage::R5 { queue })
-    }
-}
-
-fn set_tail(domain: &mut Domain, queue: Queue, port: Port) {
-    set_queue_value(&mut domain.tails, queue, port.0);
 }

@@ -1,4 +1,4 @@
-//! The guest's calls: service and its replies G0 to G4, mask, tell.
+//! The guest's calls: service and its replies G0 to G4, mask, tell; clear_mask is in `clear_mask`.
 
 use super::access::{Access, Op};
 use super::answer::{Answer, Masking, Next};
@@ -25,9 +25,9 @@ enum Outcome {
 use Outcome::{End, Go};
 
 impl Model {
-    /// service: 15; then G0.
+    /// service: 15, also during a clear_mask; then G0.
     pub fn service(&self, guest: &mut Guest) -> Next {
-        if guest.call.is_some() {
+        if self.keeps_service_out(guest) {
             return Next::at_once(Answer::UnderWay);
         }
         let count = self.first_count();
@@ -36,7 +36,7 @@ impl Model {
     }
 
     /// The access that the service under way waits for.
-    pub fn service_due(&self, guest: &Guest) -> Option<Access> {
+    pub(super) fn service_due(&self, guest: &Guest) -> Option<Access> {
         guest.call.map(|call| self.service_access(call.stage))
     }
 
@@ -56,7 +56,7 @@ impl Model {
     }
 
     /// The reply to a service: 16, then its stage, which may give 18.
-    pub fn service_reply(&self, guest: &mut Guest, seen: u32) -> Next {
+    pub(super) fn service_reply(&self, guest: &mut Guest, seen: u32) -> Next {
         let Some(service) = guest.call else {
             return Next::at_once(Answer::NoCall);
         };

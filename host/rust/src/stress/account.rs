@@ -1,9 +1,10 @@
 //! The account of PENDING that a thread keeps of its own accesses and answers.
 
-use crate::model::{Access, Op, Place};
+use crate::model::{Access, Answer, Op, Place};
 use std::collections::BTreeMap;
 
 const PENDING: u32 = 1 << 31;
+const BUSY: u32 = 1 << 28;
 /// Accesses between two at which a thread gives way.
 const GIVES_WAY: u64 = 7;
 
@@ -30,6 +31,10 @@ pub struct Account {
     pub sets: u64,
     /// Answers 2.
     pub abandoned: u64,
+    /// Times that BUSY was set.
+    pub busy: u64,
+    /// clear_masks that answered 0, and those that answered 35.
+    pub clears: [u64; 2],
 }
 
 impl Account {
@@ -55,6 +60,18 @@ impl Account {
         if matches!(access.op, Op::And(_)) && seen & PENDING != 0 && after & PENDING == 0 {
             self.ports.entry(port.0).or_default().closes += 1;
         }
+        self.busy += u64::from(access.op == Op::Or(BUSY));
+    }
+
+    /// An answer of a clear_mask: whether unmask is to be called.
+    pub fn cleared(&mut self, answer: Answer) -> Result<bool, String> {
+        let unmask = match answer {
+            Answer::Done => false,
+            Answer::CallUnmask => true,
+            _ => return Err(format!("clear_mask gives {answer:?}")),
+        };
+        self.clears[usize::from(unmask)] += 1;
+        Ok(unmask)
     }
 
     /// An answer 19.
@@ -74,6 +91,9 @@ impl Account {
         self.accesses += other.accesses;
         self.sets += other.sets;
         self.abandoned += other.abandoned;
+        self.busy += other.busy;
+        self.clears[0] += other.clears[0];
+        self.clears[1] += other.clears[1];
     }
 
     /// All ports with their numbers.

@@ -15,8 +15,13 @@ const PORTS: [u64; 10] = [1, 2, 3, 4, 5, 9, 100, 1023, 1024, 2047];
 const NOT_BOUND: u32 = 4;
 /// Calls for one event after which a thread gives up: the guest no longer serves.
 const MOST_CALLS: u64 = 2_000;
-/// Between two masks of an honest guest, so that most raises find their port unmasked.
+/// Between two masked ports of an honest guest, so that most raises find their port unmasked.
 const PAUSE: Duration = Duration::from_micros(20);
+/// One port in so many is masked and its mask cleared again and again, without a pause.
+const STORMS: u64 = 8;
+/// Masks of a storm.
+const STORM: usize = 40;
+const BUSY: u32 = 1 << 28;
 const LINKED: u32 = 1 << 29;
 const PENDING: u32 = 1 << 31;
 
@@ -34,6 +39,7 @@ pub struct Domain {
     conduct: Conduct,
     shared: Shared,
     hypervisor: Hypervisor,
+    guest: Guest,
     upcalls: Upcalls,
     /// The hypervisor's threads have ended.
     ended: AtomicBool,
@@ -48,6 +54,7 @@ impl Domain {
             conduct,
             shared: Shared::zeroed(WORDS),
             hypervisor: Hypervisor::fresh(WORDS),
+            guest: Guest::told(WORDS as u64),
             upcalls: Upcalls::default(),
             ended: AtomicBool::new(false),
             failed: AtomicBool::new(false),
@@ -116,8 +123,8 @@ impl Domain {
         outcome
     }
 
-    /// A hypervisor thread: raises until PENDING went from clear to set `events` times by them, with
-    /// other calls between.
+    /// A hypervisor thread: raises until PENDING went from clear to set `events` times by them,
+    /// with other calls between.
     fn raise(&self, seed: u64, events: u64) -> Result<Account, String> {
         let mut random = Random::new(seed);
         let mut account = Account::default();
@@ -155,17 +162,16 @@ impl Domain {
 
     /// A guest thread: services until idle, then waits for an upcall.
     fn serve(&self) -> Result<Account, String> {
-        let mut guest = Guest::told(WORDS as u64);
         let mut account = Account::default();
         while self.upcalls.wait() {
-            while self.serve_one(&mut guest, &mut account)? {}
+            while self.serve_one(&mut account)? {}
         }
         Ok(account)
     }
 
     /// One service; false where it was idle, or refused what a hostile guest wrote itself.
-    fn serve_one(&self, guest: &mut Guest, account: &mut Account) -> Result<bool, String> {
-        match (guest.service(&self.shared, account)?, self.conduct) {
+    fn serve_one(&self, account: &mut Account) -> Result<bool, String> {
+        match (self.guest.service(&self.shared, account)?, self.conduct) {
             (Answer::Idle, _) => Ok(false),
             (Answer::HandedOver(_) | Answer::NotHandedOver(_), _) => Ok(!self.is_over()),
             (Answer::BadIndex, Conduct::Hostile) => Ok(!self.is_over()),
@@ -178,24 +184,48 @@ impl Domain {
         self.conduct == Conduct::Hostile && self.ended.load(SeqCst)
     }
 
-    /// A second guest thread: masks, and what the conduct allows besides.
+    /// A second guest thread: masks a port and clears its mask, and what the conduct allows
+    /// besides. The ports that it leaves masked are unmasked by the hypervisor's threads.
     fn disturb(&self, seed: u64) -> Result<Account, String> {
         let mut random = Random::new(seed);
+        let mut account = Account::default();
         while !self.ended.load(SeqCst) {
-            mask(random.pick(&PORTS), WORDS as u64, &self.shared)?;
+            let port = random.pick(&PORTS);
+            mask(port, WORDS as u64, &self.shared)?;
             match self.conduct {
+                Conduct::Honest if random.once_in(STORMS) => self.storm(port, &mut account)?,
                 Conduct::Honest => thread::sleep(PAUSE),
                 Conduct::Hostile => self.write_anything(&mut random),
             }
+            if !random.once_in(4) {
+                self.clear_mask(port, &mut account)?;
+            }
             thread::yield_now();
         }
-        Ok(Account::default())
+        Ok(account)
+    }
+
+    /// MASKED of one port changes as fast as the guest can.
+    fn storm(&self, port: u64, account: &mut Account) -> Result<(), String> {
+        for _ in 0..STORM {
+            self.clear_mask(port, account)?;
+            mask(port, WORDS as u64, &self.shared)?;
+        }
+        Ok(())
+    }
+
+    /// clear_mask, and unmask where it asks for that.
+    fn clear_mask(&self, port: u64, account: &mut Account) -> Result<(), String> {
+        if self.guest.clear_mask(port, &self.shared, account)? {
+            self.call(Step::Unmask(port), account)?;
+        }
+        Ok(())
     }
 
     /// Writes anything to a word of the control block or of the pages.
     fn write_anything(&self, random: &mut Random) {
         let port = random.pick(&PORTS) as usize;
-        let flags = (random.below(8) as u32) << 29;
+        let flags = (random.below(16) as u32) << 28;
         match random.below(8) {
             0 => self.shared.ready.store(random.word(), SeqCst),
             1 => self.shared.heads[random.below(16) as usize].store(random.word(), SeqCst),
@@ -216,11 +246,11 @@ impl Domain {
         Ok(account)
     }
 
-    /// At rest nothing is linked or pending, and every port's account agrees.
+    /// At rest nothing is linked, pending or BUSY, and every port's account agrees.
     fn check(&self, account: &Account) -> Result<(), String> {
         for port in 0..WORDS {
             let word = self.shared.word(port);
-            if word & (LINKED | PENDING) != 0 {
+            if word & (LINKED | PENDING | BUSY) != 0 {
                 return Err(format!("at rest word {port} is {word:08X}"));
             }
         }

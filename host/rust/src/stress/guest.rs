@@ -1,18 +1,23 @@
-//! The guest's side of a domain: services, which wait for an upcall when idle, and masks.
+//! The guest's side of a domain: services, which wait for an upcall when idle, masks and
+//! clear_masks.
 
 use super::account::Account;
 use super::shared::Shared;
-use crate::boundary::calls;
 use crate::boundary::records::GUEST_SIZE;
-use crate::model::{Answer, Next};
-use std::sync::{Condvar, Mutex};
+use crate::boundary::{calls, Encoded};
+use crate::model::{Access, Answer, Next};
+use std::sync::{Condvar, Mutex, MutexGuard};
 
 /// Most accesses of a service.
 const MOST: u32 = 5;
+/// Most accesses of a clear_mask.
+const MOST_OF_CLEAR: u32 = 2;
 
-/// A guest's record, used by one thread.
+/// A guest's record, which belongs to one VCPU. Its lock stands for what runs there: a step of a
+/// service, its access and reply, or a whole clear_mask, which may begin between any two steps of
+/// a service.
 pub struct Guest {
-    bytes: Vec<u8>,
+    bytes: Mutex<Vec<u8>>,
 }
 
 impl Guest {
@@ -21,30 +26,88 @@ impl Guest {
         let mut bytes = vec![0xAA; GUEST_SIZE];
         calls::fresh_guest(&mut bytes);
         calls::tell(&mut bytes, words);
+        let bytes = Mutex::new(bytes);
         Guest { bytes }
     }
 
+    fn record(&self) -> Result<MutexGuard<'_, Vec<u8>>, String> {
+        let record = self.bytes.lock();
+        record.map_err(|_| "a thread panicked".to_string())
+    }
+
     /// A whole service: its answer.
-    pub fn service(&mut self, shared: &Shared, account: &mut Account) -> Result<Answer, String> {
-        let mut next = calls::service(&mut self.bytes);
+    pub fn service(&self, shared: &Shared, account: &mut Account) -> Result<Answer, String> {
+        let mut next = calls::service(&mut self.record()?);
         for made in 0..=MOST {
-            let access = match next.next() {
-                Some(Next::Access(access)) => access,
-                Some(Next::Answer(answer, count)) if count == made => {
+            let access = match finished("service", next, made)? {
+                Finished::Goes(access) => access,
+                Finished::Ends(answer) => {
                     account.calls += 1;
                     if let Answer::HandedOver(port) = answer {
                         account.handed_over(port.0);
                     }
                     return Ok(answer);
                 }
-                given => return Err(format!("service gives {given:?} after {made} accesses")),
             };
-            let seen = shared.perform(access);
-            let seen = seen.ok_or_else(|| format!("service reaches outside: {access:?}"))?;
-            account.access();
-            next = calls::service_reply(&mut self.bytes, seen);
+            next = self.reply(access, shared, account)?;
         }
         Err(format!("service names more than {MOST} accesses"))
+    }
+
+    /// An access of a service with its reply, in one moment.
+    fn reply(
+        &self,
+        access: Access,
+        shared: &Shared,
+        account: &mut Account,
+    ) -> Result<Encoded, String> {
+        account.access();
+        let mut record = self.record()?;
+        let seen = shared.perform(access);
+        let seen = seen.ok_or_else(|| format!("service reaches outside: {access:?}"))?;
+        Ok(calls::service_reply(&mut record, seen))
+    }
+
+    /// A whole clear_mask: whether unmask is to be called.
+    pub fn clear_mask(
+        &self,
+        port: u64,
+        shared: &Shared,
+        account: &mut Account,
+    ) -> Result<bool, String> {
+        let mut record = self.record()?;
+        let mut next = calls::clear_mask(&mut record, port);
+        for made in 0..=MOST_OF_CLEAR {
+            let access = match finished("clear_mask", next, made)? {
+                Finished::Goes(access) => access,
+                Finished::Ends(answer) => {
+                    account.calls += 1;
+                    return account.cleared(answer);
+                }
+            };
+            let seen = shared.perform(access);
+            let seen = seen.ok_or_else(|| format!("clear_mask reaches outside: {access:?}"))?;
+            account.access();
+            next = calls::service_reply(&mut record, seen);
+        }
+        Err(format!(
+            "clear_mask names more than {MOST_OF_CLEAR} accesses"
+        ))
+    }
+}
+
+/// Where a call stands after so many accesses.
+enum Finished {
+    Goes(Access),
+    Ends(Answer),
+}
+
+/// The next access, or the answer, which counts the accesses made.
+fn finished(call: &str, next: Encoded, made: u32) -> Result<Finished, String> {
+    match next.next() {
+        Some(Next::Access(access)) => Ok(Finished::Goes(access)),
+        Some(Next::Answer(answer, count)) if count == made => Ok(Finished::Ends(answer)),
+        given => Err(format!("{call} gives {given:?} after {made} accesses")),
     }
 }
 

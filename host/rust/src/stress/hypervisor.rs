@@ -9,7 +9,7 @@ use crate::model::{Next, Step};
 use std::sync::Mutex;
 
 /// Most accesses of a call.
-const MOST: u32 = 9;
+const MOST: u32 = 12;
 
 /// The library's bytes of the hypervisor's side.
 struct Bytes {

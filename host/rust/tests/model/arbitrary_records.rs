@@ -2,7 +2,7 @@
 //! is the one due, a second run gives the same, and flat records keep the calls.
 
 use evtchn_fifo_host::model::arbitrary::{hostile_step, world};
-use evtchn_fifo_host::model::{FlatCall, FlatService, Model, Next, Step, World};
+use evtchn_fifo_host::model::{FlatCall, FlatClear, FlatService, Model, Next, Step, World};
 use evtchn_fifo_host::random::Random;
 
 /// Numbers of refusals that change nothing.
@@ -22,7 +22,7 @@ fn check(seed: u64, step: Step, before: &World, after: &World, next: Next) {
         Next::Access(access) => {
             let due = [
                 after.model.due(&after.domain),
-                after.model.service_due(&after.guest),
+                after.model.guest_due(&after.guest),
             ];
             assert!(due.contains(&Some(access)), "seed {seed} {step:?}");
         }
@@ -42,6 +42,9 @@ fn random_records_do_not_trap() {
         let (call, service) = (world.domain.call, world.guest.call);
         assert_eq!(FlatCall::from(call).call(), call, "seed {seed}");
         assert_eq!(FlatService::from(service).service(), service, "seed {seed}");
+        let clearing = world.guest.clearing;
+        let flat = FlatClear::from(clearing);
+        assert_eq!(flat.clear_mask(), clearing, "seed {seed}");
         for _ in 0..length {
             let step = hostile_step(&mut random, &world);
             let before = world.clone();

@@ -216,9 +216,10 @@ fn c12(model: Model) -> Outcome {
     for _ in 0..3 {
         run.step(Step::Access(X));
     }
-    let (masked, unmasked) = (0xE000_0000, 0xA000_0000);
-    let given = run.replies(&[masked, unmasked, masked, unmasked]);
-    same!(given[3], "2 n7");
+    run.replies(&[0xE000_0000, 0xA000_0000]);
+    run.replies(&[0xF000_0000, 0xB000_0000, 0xF000_0000, 0xB000_0000]);
+    same!(run.world.domain.tails[7], 5);
+    same!(run.replies(&[0xB000_0000]), ["2 n10"]);
     same!(run.log(), [PROLOGUE, C1, BIND_9, C12].concat());
     same!(run.world.domain.tails[7], 9);
     same!(run.word(9), 0xA000_0000);

@@ -18,6 +18,7 @@ fn last_port(model: Model) -> Outcome {
     same!(run.call(Step::Raise(131_071)), (1, 4));
     same!(run.call(Step::Service), (19, 5));
     same!(run.call(Step::Mask(131_071)), (0, 1));
+    same!(run.call(Step::ClearMask(131_071)), (0, 2));
     for step in [
         Step::Bind(131_072),
         Step::Close(131_072),
@@ -27,6 +28,7 @@ fn last_port(model: Model) -> Outcome {
     }
     same!(run.call(Step::Unmask(131_072)), (3, 0));
     same!(run.call(Step::Mask(131_072)), (3, 0));
+    same!(run.call(Step::ClearMask(131_072)), (3, 0));
     Ok(())
 }
 
@@ -83,6 +85,11 @@ fn event_word_codec(_: Model) -> Outcome {
     }
     let word = EventWord::from_bits(0xBFFE_0003).with_link(Port(9));
     same!(word.bits(), 0xBFFE_0009);
+    same!(word.with_busy(false).bits(), 0xAFFE_0009);
+    same!(
+        EventWord::from_bits(0xEFFE_0003).unmasked().bits(),
+        0xAFFE_0003
+    );
     same!(Entry::FRESH.bits(), 7);
     Ok(())
 }

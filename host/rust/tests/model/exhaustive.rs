@@ -1,10 +1,10 @@
 //! Every interleaving of a small world: two ports, two queues, one page. The four parts are
-//! judged after every step; part 3 from one step to the next.
+//! judged after every step, part 3 from one step to the next, and where BUSY stands.
 
-use evtchn_fifo_host::model::claims::{all_parts, Flows, Queues};
+use evtchn_fifo_host::model::claims::{all_parts, misplaced_busy, Flows, Queues};
 use evtchn_fifo_host::model::{Event, Faults, Model, Side, Step, World};
 use std::collections::HashSet;
-use std::hash::{DefaultHasher, Hash, Hasher};
+use std::hash::{Hash, Hasher};
 
 /// Every step that can change the small world.
 fn steps() -> Vec<Step> {
@@ -18,6 +18,7 @@ fn steps() -> Vec<Step> {
             Step::Raise(port),
             Step::Unmask(port),
             Step::Mask(port),
+            Step::ClearMask(port),
             Step::Bind(port),
             Step::Close(port),
             Step::SetPriority { port, priority: 0 },
@@ -36,38 +37,86 @@ fn start(model: Model) -> World {
     world
 }
 
+/// Two hashes of what is written, each of 64 bits.
+struct TwoHashes([u64; 2]);
+
+impl Hasher for TwoHashes {
+    fn write(&mut self, bytes: &[u8]) {
+        for part in bytes.chunks(8) {
+            let mut number = [0; 8];
+            number[..part.len()].copy_from_slice(part);
+            self.write_u64(u64::from_le_bytes(number));
+        }
+    }
+
+    fn write_u8(&mut self, number: u8) {
+        self.write_u64(number.into());
+    }
+
+    fn write_u32(&mut self, number: u32) {
+        self.write_u64(number.into());
+    }
+
+    fn write_u64(&mut self, number: u64) {
+        let mix = |hash: u64, factor| {
+            let mixed = (hash ^ number).wrapping_mul(factor);
+            mixed ^ mixed >> 29
+        };
+        let [one, other] = self.0;
+        self.0 = [
+            mix(one, 0x9E37_79B9_7F4A_7C15),
+            mix(other, 0xD6E8_FEB8_6659_FD93),
+        ];
+    }
+
+    fn finish(&self) -> u64 {
+        self.0[0]
+    }
+}
+
 /// Two hashes of a world without its counts.
-fn key(world: &World) -> (u64, u64) {
+fn key(world: &World) -> [u64; 2] {
     let mut domain = world.domain;
     let mut guest = world.guest;
     domain.call.iter_mut().for_each(|call| call.count = 0);
     guest.call.iter_mut().for_each(|call| call.count = 0);
-    let hash = |salt: u64| {
-        let mut hasher = DefaultHasher::new();
-        (salt, &world.memory, &world.ledger, domain, guest).hash(&mut hasher);
-        hasher.finish()
-    };
-    (hash(1), hash(2))
+    let clearing = guest.clearing.iter_mut();
+    clearing.for_each(|clearing| clearing.count = 0);
+    let mut hashes = TwoHashes([1, 2]);
+    (&world.memory, &world.ledger, domain, guest).hash(&mut hashes);
+    hashes.0
 }
 
-/// One step, with the four parts after it; nothing where the step changes nothing.
-fn judged(world: &World, before: &Queues, step: Step) -> Result<Option<World>, String> {
-    let mut after = world.clone();
+/// Makes `after` the same world, which lends as much.
+fn copy(world: &World, after: &mut World) {
+    after.memory.words.copy_from_slice(&world.memory.words);
+    after.memory.control.clone_from(&world.memory.control);
+    after.ledger.copy_from_slice(&world.ledger);
+    (after.domain, after.guest) = (world.domain, world.guest);
+}
+
+/// One step into `after`, with the four parts after it; whether the step changes anything.
+fn judged(world: &World, before: &Queues, step: Step, after: &mut World) -> Result<bool, String> {
+    copy(world, after);
     let events = after.step(step).events;
     let accessed = |event: &Event| matches!(event, Event::Accessed(_));
-    if !events.iter().any(accessed) && after == *world {
-        return Ok(None);
+    if !events.iter().any(accessed) && after == world {
+        return Ok(false);
     }
     let mut flows = Flows::standing(before);
     events.iter().for_each(|event| flows.note(event));
-    all_parts(&after, &flows).map_err(|broken| format!("{step:?}: {broken:?}"))?;
-    Ok(Some(after))
+    all_parts(after, &flows).map_err(|broken| format!("{step:?}: {broken:?}"))?;
+    match misplaced_busy(after) {
+        Some(port) => Err(format!("{step:?}: BUSY of {port:?}")),
+        None => Ok(true),
+    }
 }
 
 /// Visits worlds until none is new or `limit` are met; gives their number.
 pub fn visit(model: Model, limit: usize) -> Result<usize, String> {
     let steps = steps();
     let first = start(model);
+    let mut after = first.clone();
     let mut met = HashSet::from([key(&first)]);
     let mut waiting = vec![first];
     while !waiting.is_empty() && met.len() < limit {
@@ -75,10 +124,9 @@ pub fn visit(model: Model, limit: usize) -> Result<usize, String> {
         for world in &waiting {
             let before = Queues::of(world).map_err(|error| format!("{error:?}"))?;
             for step in &steps {
-                if let Some(after) = judged(world, &before, *step)? {
-                    if met.insert(key(&after)) {
-                        found.push(after);
-                    }
+                let changes = judged(world, &before, *step, &mut after)?;
+                if changes && met.insert(key(&after)) {
+                    found.push(after.clone());
                 }
             }
         }
@@ -89,7 +137,7 @@ pub fn visit(model: Model, limit: usize) -> Result<usize, String> {
 
 #[test]
 fn small_world_keeps_the_four_parts() {
-    let limit = 5_000_000;
+    let limit = 6_000_000;
     let worlds = visit(Model::default(), limit);
     println!("{worlds:?} worlds");
     assert!(worlds.is_ok_and(|met| met < limit));
@@ -99,6 +147,22 @@ fn small_world_keeps_the_four_parts() {
 fn small_world_needs_the_rule_on_tails_left_behind() {
     for fault in [Faults::StaleTailTest, Faults::CloseClearsLinked] {
         let broken = visit(Model::new(fault), 1_000_000);
+        println!("{fault:?}: {broken:?}");
+        assert!(broken.is_err());
+    }
+}
+
+#[test]
+fn small_world_needs_busy_and_its_clearing() {
+    for fault in [
+        Faults::ClearIgnoresPending,
+        Faults::ClearStores,
+        Faults::ClearIgnoresBusy,
+        Faults::ReplyToService,
+        Faults::BusyLeftAtHead,
+        Faults::CasKeepsBusy,
+    ] {
+        let broken = visit(Model::new(fault), 2_000_000);
         println!("{fault:?}: {broken:?}");
         assert!(broken.is_err());
     }

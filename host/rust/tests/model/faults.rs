@@ -33,13 +33,15 @@ fn reading_cases() -> Vec<(&'static str, Case)> {
         crate::readings_steps::CASES,
         crate::readings_guest::CASES,
         crate::readings_records::CASES,
+        crate::busy::CASES,
+        crate::clear_mask::CASES,
     ]
     .concat()
 }
 
 /// Two worlds give and hold the same, but for their models.
 fn agree(right: &World, faulty: &World, gave: (Next, Next)) -> bool {
-    let dues = |w: &World| (w.model.due(&w.domain), w.model.service_due(&w.guest));
+    let dues = |w: &World| (w.model.due(&w.domain), w.model.guest_due(&w.guest));
     gave.0 == gave.1
         && dues(right) == dues(faulty)
         && right.domain == faulty.domain

@@ -9,7 +9,7 @@ use evtchn_fifo_host::model::log::read;
 use evtchn_fifo_host::random::Random;
 
 /// Lines of the form, fields parted by spaces.
-const OF_THE_FORM: [&str; 32] = [
+const OF_THE_FORM: [&str; 36] = [
     "accesses 1",
     "X read w5 - - 00000000",
     "G read h7 - - 00000005",
@@ -41,12 +41,16 @@ const OF_THE_FORM: [&str; 32] = [
     "G call service - - -",
     "G call mask 5 - -",
     "G call mask 4294967295 - -",
+    "G call clear_mask 5 - -",
+    "G call clear_mask 4294967295 - -",
+    "G cas w5 60000000 20000000 60000000",
     "G answer 20 - - -",
+    "G answer 35 - - -",
 ];
 
 /// Lines that are not, fields parted by spaces; `.` stands for a space and `~` for a carriage
 /// return.
-const NOT_OF_THE_FORM: [&str; 84] = [
+const NOT_OF_THE_FORM: [&str; 91] = [
     "",
     ".",
     "accesses",
@@ -117,7 +121,14 @@ const NOT_OF_THE_FORM: [&str; 84] = [
     "X answer 1 - - - -",
     "X call tell 1024 - -",
     "X call send 5 - -",
-    "G call clear_mask 5 - -",
+    "X call clear_mask 5 - -",
+    "G call clear_mask - - -",
+    "G call clear_mask 5 5 -",
+    "G call clear_mask 5 - 0",
+    "G call clear_mask 4294967296 - -",
+    "G call clear_masks 5 - -",
+    "G call clear 5 - -",
+    "G answer 35 5 - -",
     "X call service - - -",
     "X call mask 5 - -",
     "G call raise 5 - -",

@@ -1,15 +1,17 @@
-//! Tests of the model: cases, readings, edges, random histories, seeded faults, logs played back,
-//! cables.
+//! Tests of the model: cases, readings, edges, BUSY, clear_mask, random histories, seeded faults,
+//! logs played back, cables.
 
 #[macro_use]
 mod support;
 
 mod arbitrary_records;
+mod busy;
 mod cables_calls;
 mod cables_refusals;
 mod cables_table;
 mod cases;
 mod claims;
+mod clear_mask;
 mod edges;
 mod exhaustive;
 mod faults;

@@ -103,12 +103,13 @@ fn a2_5(model: Model) -> Outcome {
     Ok(())
 }
 
-/// Nine accesses at most: the fourth cas loses LINKED.
+/// Twelve accesses at most: the fifth cas loses LINKED.
 fn longest(run: &mut Run, first: u32) -> Vec<String> {
     run.world.domain.tails[7] = 9;
-    let linked = [0xA000_0001, 0xA000_0002, 0xA000_0003, 0xA000_0004];
-    let end = [0, 0, 0];
-    run.replies(&[&[first, 0x8000_0000], &linked[..], &end[..]].concat())
+    let linked = [0xA000_0001, 0xA000_0002, 0xA000_0003];
+    let busy = [0xB000_0004, 0xB000_0005, 0xB000_0006];
+    let end = [0; 4];
+    run.replies(&[&[first, 0x8000_0000], &linked[..], &busy, &end].concat())
 }
 
 fn a2_6(model: Model) -> Outcome {
@@ -118,12 +119,15 @@ fn a2_6(model: Model) -> Outcome {
         "or w5 20000000",
         "read w9",
         "cas w9 A0000001 A0000005",
-        "cas w9 A0000002 A0000005",
-        "cas w9 A0000003 A0000005",
-        "cas w9 A0000004 A0000005",
+        "or w9 10000000",
+        "cas w9 B0000003 A0000005",
+        "cas w9 B0000004 A0000005",
+        "cas w9 B0000005 A0000005",
+        "cas w9 B0000006 A0000005",
+        "and w9 EFFFFFFF",
         "store h7 00000005",
         "or ready 00000080",
-        "1 n9",
+        "1 n12",
     ];
     same!(longest(&mut run, 0), wanted);
     same!(run.world.domain.tails[7], 5);
@@ -133,7 +137,7 @@ fn a2_6(model: Model) -> Outcome {
 fn a2_6_unmask(model: Model) -> Outcome {
     let mut run = Run::bound(model, &[5, 9]);
     same!(text(run.step(Step::Unmask(5))), "and w5 BFFFFFFF");
-    same!(longest(&mut run, 0xC000_0000)[8], "1 n9");
+    same!(longest(&mut run, 0xC000_0000)[11], "1 n12");
     Ok(())
 }
 

@@ -2,11 +2,11 @@
 
 use crate::support::{expand, text, Outcome, Run, G, X};
 use evtchn_fifo_host::model::{
-    Entry, FlatCall, FlatService, Model, Owner, ServiceTag, StageTag, Step,
+    ClearTag, Entry, FlatCall, FlatClear, FlatService, Model, Owner, ServiceTag, StageTag, Step,
 };
 
 cases! { a5_1, a5_2_queue, a5_2_tries, a5_2_link, a5_3, a5_4, a5_5, a5_8, a5_9, a5_10, a5_12,
-a5_13, flat_fields_not_needed }
+a5_13, flat_fields_not_needed, clear_mask_fields_not_needed }
 
 const FLAT: FlatCall = FlatCall {
     owner: Some(Owner::Raise),
@@ -71,20 +71,29 @@ fn a5_2_queue(model: Model) -> Outcome {
     Ok(())
 }
 
-/// Tries of 4 or more: the next failed cas that keeps LINKED ends the call.
+/// Tries of 5 or more: no cas follows one that is not taken. Tries of 0 or 1: it is the first.
 fn a5_2_tries(model: Model) -> Outcome {
-    for tries in [4, 5, u32::MAX] {
+    let tried = |tries| {
         let stage = StageTag::R4;
-        let mut run = at(
-            model,
-            FlatCall {
-                stage,
-                tries,
-                ..FLAT
-            },
-        );
-        same!(run.replies(&[0xE000_0000]), ["2 n3"]);
+        let flat = FlatCall {
+            stage,
+            tries,
+            ..FLAT
+        };
+        let mut run = at(model, flat);
+        run.world.domain.tails[7] = 9;
+        run
+    };
+    for tries in [5, 6, u32::MAX] {
+        let mut run = tried(tries);
+        same!(run.replies(&[0xE000_0000, 0]), ["and w9 EFFFFFFF", "2 n4"]);
         same!(run.world.domain.tails[7], 5);
+    }
+    for tries in [0, 1] {
+        let mut run = tried(tries);
+        let given = run.replies(&[0xE000_0000, 0xE000_0000]);
+        same!(given, ["or w9 10000000", "cas w9 F0000000 E0000005"]);
+        same!(tried(tries).replies(&[0xC000_0000]), ["store h7 00000005"]);
     }
     Ok(())
 }
@@ -162,6 +171,13 @@ fn a5_5(model: Model) -> Outcome {
     }
     .service();
     same!(run.service_replies(&[9]), ["and w9 DFFE0000"]);
+    let flat = FlatClear {
+        stage: None,
+        port: 5,
+        word: 7,
+        count: 2,
+    };
+    same!(flat.clear_mask(), None);
     Ok(())
 }
 
@@ -303,11 +319,30 @@ fn flat_fields_not_needed(_: Model) -> Outcome {
         );
     }
     let other = FlatCall { queue: 7, ..other };
-    for stage in [StageTag::R3, StageTag::R5, StageTag::R6] {
+    for stage in [StageTag::R3, StageTag::R5, StageTag::R6, StageTag::SetBusy] {
         same!(
             FlatCall { stage, ..other }.call(),
             FlatCall { stage, ..FLAT }.call()
         );
     }
+    let stage = StageTag::ClearBusy;
+    let kept = FlatCall { tries: 77, ..FLAT };
+    same!(
+        FlatCall { stage, ..kept }.call(),
+        FlatCall { stage, ..FLAT }.call()
+    );
+    Ok(())
+}
+
+/// A clear_mask's read has no use for the word.
+fn clear_mask_fields_not_needed(_: Model) -> Outcome {
+    let read = FlatClear {
+        stage: Some(ClearTag::Read),
+        port: 5,
+        word: 0,
+        count: 1,
+    };
+    let other = FlatClear { word: 77, ..read };
+    same!(other.clear_mask(), read.clear_mask());
     Ok(())
 }

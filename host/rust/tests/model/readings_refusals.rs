@@ -112,6 +112,8 @@ fn all_stages() -> Vec<(Owner, Stage)> {
         (Owner::Raise, Stage::R2),
         (Owner::Raise, Stage::R3 { queue }),
         (Owner::Raise, r4),
+        (Owner::Raise, Stage::SetBusy { queue }),
+        (Owner::Raise, Stage::ClearBusy { queue, word: 0 }),
         (Owner::Raise, Stage::R5 { queue }),
         (Owner::Raise, Stage::R6 { queue }),
     ]

@@ -201,40 +201,50 @@ fn behind_5(model: Model, seen: u32) -> (Run, String) {
     (run, given)
 }
 
-/// The cas replaces LINK alone; the next try uses the word that the cas saw.
+/// The cas replaces LINK and BUSY alone; each later try uses the word that the one before it saw.
 fn a3_11(model: Model) -> Outcome {
-    let (mut run, given) = behind_5(model, 0xBFFE_0003);
-    same!(given, "cas w5 BFFE0003 BFFE0009");
-    same!(run.replies(&[0xE100_0003]), ["cas w5 E1000003 E1000009"]);
+    let (mut run, given) = behind_5(model, 0xAFFE_0003);
+    same!(given, "cas w5 AFFE0003 AFFE0009");
+    run.replies(&[0xE100_0003, 0xE100_0003]);
+    same!(run.replies(&[0xB00E_0004]), ["cas w5 B00E0004 A00E0009"]);
     Ok(())
 }
 
 /// A taken cas answers 0 on any try.
 fn a3_12(model: Model) -> Outcome {
-    let words = [0xA000_0000, 0xE000_0000, 0xA000_0003, 0xE000_0003];
-    for tries in 1..=4 {
-        let (mut run, _) = behind_5(model, words[0]);
-        let mut handed = words[1..tries].to_vec();
-        handed.push(words[tries - 1]);
-        let given = run.replies(&handed);
-        same!(given.last().cloned(), Some(format!("0 n{}", 3 + tries)));
+    let (mut run, _) = behind_5(model, 0xA000_0000);
+    same!(run.replies(&[0xA000_0000]), ["0 n4"]);
+    same!(run.world.domain.tails[7], 9);
+    let words = [0xB000_0000, 0xF000_0003, 0xB000_0003, 0xF000_0001];
+    for tries in 2..=5 {
+        let (mut run, _) = behind_5(model, 0xA000_0003);
+        run.replies(&[0xE000_0000, 0xA000_0000]);
+        run.replies(&words[1..tries - 1]);
+        let given = run.replies(&[words[tries - 2]]);
+        same!(given, [format!("0 n{}", 4 + tries)]);
         same!(run.world.domain.tails[7], 9);
     }
     Ok(())
 }
 
-/// Order at a cas's reply: taken, LINKED lost, fourth, next.
+/// Order at a cas's reply: taken, LINKED lost, fifth, next.
 fn a3_13(model: Model) -> Outcome {
     let (mut run, _) = behind_5(model, 0xA000_0000);
-    let given = run.replies(&[0xA000_0001, 0xA000_0002, 0xA000_0003, 0xA000_0004]);
-    same!(given[3], "2 n7");
+    run.replies(&[0xA000_0001, 0xA000_0001]);
+    let given = run.replies(&[0xB000_0002, 0xB000_0003, 0xB000_0004, 0xB000_0005]);
+    same!(given[3], "and w5 EFFFFFFF");
+    same!(run.replies(&[0xB000_0005]), ["2 n10"]);
     same!(run.world.domain.tails[7], 9);
     same!(run.entry(9), 0x0377);
-    for tries in 1..=4 {
+    let (mut run, _) = behind_5(model, 0xA000_0000);
+    same!(run.replies(&[P]), ["store h7 00000009"]);
+    for tries in 2..=5 {
         let (mut run, _) = behind_5(model, 0xA000_0000);
-        let linked: Vec<u32> = (1..tries).map(|k| 0xA000_0000 + k).collect();
+        run.replies(&[0xA000_0001, 0xA000_0001]);
+        let linked: Vec<u32> = (2..tries).map(|k| 0xB000_0000 + k).collect();
         run.replies(&linked);
-        same!(run.replies(&[P]), ["store h7 00000009"]);
+        let given = run.replies(&[P, P]);
+        same!(given, ["and w5 EFFFFFFF", "store h7 00000009"]);
     }
     Ok(())
 }
@@ -274,25 +284,31 @@ fn a3_16(model: Model) -> Outcome {
     for _ in 0..3 {
         run.step(Step::Access(X));
     }
-    run.replies(&[0xA000_0001, 0xA000_0002, 0xA000_0003, 0xA000_0004]);
+    run.replies(&[0xA000_0001, 0xA000_0002, 0xB000_0003, 0xB000_0004]);
+    same!(run.replies(&[0xB000_0005, 0xB000_0006, 0])[2], "2 n10");
     same!(run.call(Step::Raise(9)), (0, 1));
     same!(run.word(9), 0xA000_0000);
     Ok(())
 }
 
-/// Reserved bits stay through a whole life of an event.
+/// Reserved bits stay through a whole life of an event. A BUSY that the guest has set stays until
+/// a cas on the word is taken.
 fn reserved_bits_are_kept(model: Model) -> Outcome {
     let mut run = Run::bound(model, &[5, 9]);
     run.world.memory.words[5] = 0x1FFE_0000;
     run.call(Step::Raise(5));
+    same!(run.word(5), 0xBFFE_0000);
     run.call(Step::Raise(9));
-    same!(run.word(5), 0xBFFE_0009);
+    same!(run.word(5), 0xAFFE_0009);
     run.call(Step::Mask(5));
     run.step(Step::Service);
     same!(run.finish(G), (21, 4));
-    same!(run.word(5), 0xDFFE_0000);
+    same!(run.word(5), 0xCFFE_0000);
     run.call(Step::Unmask(5));
     run.call(Step::Close(5));
-    same!(run.word(5), 0x3FFE_0000);
+    same!(run.word(5), 0x2FFE_0000);
+    run.world.memory.words[5] = 0x4FFE_0003;
+    same!(run.call(Step::ClearMask(5)), (0, 2));
+    same!(run.word(5), 0x0FFE_0003);
     Ok(())
 }

@@ -5,7 +5,7 @@ use crate::support::Outcome;
 use evtchn_fifo_host::model::{Call, Entry, Model, Next, Owner, Port, Side, Stage, Step, World};
 
 cases! { init_row, expand_row, bind_row, close_row, set_priority_row, raise_row, unmask_row,
-reply_row, service_rows, mask_row }
+reply_row, service_rows, mask_row, clear_mask_row }
 
 const BUSY: Call = Call {
     owner: Owner::Raise,
@@ -162,6 +162,12 @@ fn reply_row(model: Model) -> Outcome {
     })
 }
 
+/// A clear_mask of port 5 under way.
+fn clearing(world: &mut World) {
+    world.guest.words = 1024;
+    world.step(Step::ClearMask(5));
+}
+
 fn service_rows(model: Model) -> Outcome {
     try_row(model, Step::Service, &[15], |mut world, step, holds| {
         if holds.contains(&15) {
@@ -169,6 +175,23 @@ fn service_rows(model: Model) -> Outcome {
         }
         (world, step)
     })?;
+    try_row(model, Step::Service, &[15], |mut world, step, holds| {
+        if holds.contains(&15) {
+            clearing(&mut world);
+        }
+        (world, step)
+    })?;
+    try_row(
+        model,
+        Step::HandBack(Side::Guest, 1),
+        &[16],
+        |mut world, step, holds| {
+            if !holds.contains(&16) {
+                clearing(&mut world);
+            }
+            (world, step)
+        },
+    )?;
     try_row(
         model,
         Step::HandBack(Side::Guest, 1),
@@ -187,5 +210,31 @@ fn mask_row(model: Model) -> Outcome {
         let port = if holds.contains(&3) { 131_072 } else { 5 };
         world.guest.words = if holds.contains(&6) { 5 } else { 200_000 };
         (world, Step::Mask(port))
+    })
+}
+
+/// 15 is a clear_mask's alone: a service under way plays no part.
+fn clear_mask_row(model: Model) -> Outcome {
+    let setup: Setup = |mut world, _, holds| {
+        let port = if holds.contains(&3) { 131_072 } else { 5 };
+        if holds.contains(&15) {
+            clearing(&mut world);
+        }
+        world.guest.words = if holds.contains(&6) { 5 } else { 200_000 };
+        (world, Step::ClearMask(port))
+    };
+    try_row(model, Step::Service, &[15, 3, 6], setup)?;
+    try_row(model, Step::Service, &[15, 3, 6], |mut world, _, holds| {
+        world.step(Step::Service);
+        let port = if holds.contains(&3) { 0 } else { 131_071 };
+        if holds.contains(&15) {
+            clearing(&mut world);
+        }
+        let outside = holds.contains(&6);
+        world.guest.words = match holds.contains(&3) {
+            true => u32::from(!outside),
+            false => 131_072 - u32::from(outside),
+        };
+        (world, Step::ClearMask(port))
     })
 }

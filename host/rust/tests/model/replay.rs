@@ -162,6 +162,104 @@ fn a_masks_access_follows_its_call_at_once() {
     );
 }
 
+/// The accesses of a clear_mask come when they come, and the service's after its answer.
+#[test]
+fn a_clear_masks_accesses_are_the_guests_until_its_answer() {
+    let mask = [
+        "G call mask 5 - -",
+        "G or w5 - 40000000 00000000",
+        "G answer 0 - - -",
+    ];
+    let clear = [
+        "G call clear_mask 5 - -",
+        "G read w5 - - 40000000",
+        "G cas w5 40000000 00000000 40000000",
+        "G answer 0 - - -",
+    ];
+    assert_eq!(report(&[BEGUN, &mask, &clear]), Report::Agree(12));
+    assert_eq!(report(&[BEGUN, &mask, &clear[..1]]), Report::Agree(9));
+    assert_eq!(report(&[BEGUN, &mask, &clear[..2]]), Report::Agree(10));
+    differs(&[BEGUN, &mask, &clear[..3]], 12, clear[3]);
+    let refused = ["X call raise 5 - -", "X answer 4 - - -"];
+    let between = report(&[BEGUN, &mask, &clear[..2], &refused, &clear[2..]]);
+    assert_eq!(between, Report::Agree(14));
+    let service = "G call service - - -";
+    let idle = ["G swap ready - 00000000 00000000", "G answer 20 - - -"];
+    let during = report(&[BEGUN, &mask, &[service], &clear, &idle]);
+    assert_eq!(during, Report::Agree(15));
+    differs(
+        &[BEGUN, &mask, &[service], &clear[..1], &idle],
+        11,
+        clear[1],
+    );
+    let refused = [service, "G answer 15 - - -"];
+    let refused = report(&[BEGUN, &mask, &clear[..1], &refused, &clear[1..]]);
+    assert_eq!(refused, Report::Agree(14));
+    let again = ["G call clear_mask 9 - -", "G answer 15 - - -"];
+    let again = report(&[BEGUN, &mask, &clear[..1], &again, &clear[1..]]);
+    assert_eq!(again, Report::Agree(14));
+}
+
+#[test]
+fn a_clear_mask_answers_35_and_is_refused() {
+    let masked = [
+        "G call mask 5 - -",
+        "G or w5 - 40000000 00000000",
+        "G answer 0 - - -",
+        "X call raise 5 - -",
+        "X or w5 - 80000000 40000000",
+        "X answer 0 - - -",
+        "G call clear_mask 5 - -",
+        "G read w5 - - C0000000",
+        "G answer 35 - - -",
+    ];
+    assert_eq!(report(&[BEGUN, BOUND, &masked]), Report::Agree(17));
+    let done = "G answer 0 - - -";
+    differs(&[BEGUN, BOUND, &masked[..8], &[done]], 17, masked[8]);
+    for (port, number) in [(0, 3), (1024, 6), (131_072, 3)] {
+        let call = format!("G call clear_mask {port} - -");
+        let answer = format!("G answer {number} - - -");
+        assert_eq!(report(&[BEGUN, &[&call, &answer]]), Report::Agree(7));
+        differs(&[BEGUN, &[&call]], 7, &answer);
+    }
+    differs(
+        &[&["accesses 1", "G call clear_mask 1 - -"]],
+        3,
+        "G answer 6 - - -",
+    );
+}
+
+/// A guest masks port 5 between the read and the cas of a raise behind it: the or that sets BUSY
+/// is due, where an older log has a second cas.
+#[test]
+fn a_second_cas_follows_the_or() {
+    let bound = [
+        "X call bind 9 - -",
+        "X read w9 - - 00000000",
+        "X answer 0 - - -",
+    ];
+    let raised = [
+        "X call raise 9 - -",
+        "X or w9 - 80000000 00000000",
+        "X or w9 - 20000000 80000000",
+        "X read w5 - - A0000000",
+        "G call mask 5 - -",
+        "G or w5 - 40000000 A0000000",
+        "G answer 0 - - -",
+        "X cas w5 A0000000 A0000009 E0000000",
+    ];
+    let busy = [
+        "X or w5 - 10000000 E0000000",
+        "X cas w5 F0000000 E0000009 F0000000",
+        "X answer 0 - - -",
+    ];
+    let begun: &[&[&str]] = &[BEGUN, BOUND, RAISED, &bound, &raised];
+    let log = [begun, &[&busy]].concat();
+    assert_eq!(report(&log), Report::Agree(28));
+    let older = "X cas w5 E0000000 E0000009 E0000000";
+    differs(&[begun, &[&[older]]].concat(), 26, busy[0]);
+}
+
 #[test]
 fn a_line_not_of_the_form_gives_22_unless_an_earlier_line_differs() {
     assert_eq!(report(&[BEGUN, &["x"]]), Report::Malformed(6));

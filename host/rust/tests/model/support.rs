@@ -105,7 +105,7 @@ impl Run {
         handed.map(text).collect()
     }
 
-    /// The same for a service.
+    /// The same for the guest's call.
     pub fn service_replies(&mut self, words: &[u32]) -> Vec<String> {
         let handed = words.iter().map(|w| self.step(Step::HandBack(G, *w)));
         handed.map(text).collect()
@@ -134,7 +134,7 @@ impl Run {
 
 fn side_of(step: Step) -> Side {
     match step {
-        Step::Service => G,
+        Step::Service | Step::ClearMask(_) => G,
         _ => X,
     }
 }

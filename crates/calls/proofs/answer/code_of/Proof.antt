@@ -133,9 +133,15 @@ plain-requires-20 c κs = search needs
 enum-known-answer-3 : tie.Need-enum-known-answer-3
 enum-known-answer-3 c = search needs
 
+enum-told-21 : tie.Need-enum-told-21
+enum-told-21 c = search needs
+
+plain-requires-21 : tie.Need-plain-requires-21
+plain-requires-21 c κs = search needs
+
 returns : tie.Need-returns
 unfolding codeOf
-returns c = simp (c .before .enum-told .given .1, c .before .before .match .keys1, c .plain .ensures)
+returns c = simp (← (c .plain .ensures), c .before .enum-told .given .1, c .before .before .match .keys1)
 
 returns-2 : tie.Need-returns-2
 unfolding codeOf
@@ -143,75 +149,75 @@ returns-2 c = simp (c .before .answer .given .1, c .before .before .match .keys2
 
 returns-3 : tie.Need-returns-3
 unfolding codeOf
-returns-3 c = simp (c .before .enum-told2 .given .1, c .before .before .match .keys3, c .plain2 .ensures)
+returns-3 c = simp (← (c .plain2 .ensures), c .before .enum-told2 .given .1, c .before .before .match .keys3)
 
 returns-4 : tie.Need-returns-4
 unfolding codeOf
-returns-4 c = simp (c .before .enum-told3 .given .1, c .before .before .match .keys4, c .plain3 .ensures)
+returns-4 c = simp (← (c .plain3 .ensures), c .before .enum-told3 .given .1, c .before .before .match .keys4)
 
 returns-5 : tie.Need-returns-5
 unfolding codeOf
-returns-5 c = simp (c .before .enum-told4 .given .1, c .before .before .match .keys5, c .plain4 .ensures)
+returns-5 c = simp (← (c .plain4 .ensures), c .before .enum-told4 .given .1, c .before .before .match .keys5)
 
 returns-6 : tie.Need-returns-6
 unfolding codeOf
-returns-6 c = simp (c .before .enum-told5 .given .1, c .before .before .match .keys6, c .plain5 .ensures)
+returns-6 c = simp (← (c .plain5 .ensures), c .before .enum-told5 .given .1, c .before .before .match .keys6)
 
 returns-7 : tie.Need-returns-7
 unfolding codeOf
-returns-7 c = simp (c .before .enum-told6 .given .1, c .before .before .match .keys7, c .plain6 .ensures)
+returns-7 c = simp (← (c .plain6 .ensures), c .before .enum-told6 .given .1, c .before .before .match .keys7)
 
 returns-8 : tie.Need-returns-8
 unfolding codeOf
-returns-8 c = simp (c .before .enum-told7 .given .1, c .before .before .match .keys8, c .plain7 .ensures)
+returns-8 c = simp (← (c .plain7 .ensures), c .before .enum-told7 .given .1, c .before .before .match .keys8)
 
 returns-9 : tie.Need-returns-9
 unfolding codeOf
-returns-9 c = simp (c .before .enum-told8 .given .1, c .before .before .match .keys9, c .plain8 .ensures)
+returns-9 c = simp (← (c .plain8 .ensures), c .before .enum-told8 .given .1, c .before .before .match .keys9)
 
 returns-10 : tie.Need-returns-10
 unfolding codeOf
-returns-10 c = simp (c .before .enum-told9 .given .1, c .before .before .match .keys10, c .plain9 .ensures)
+returns-10 c = simp (← (c .plain9 .ensures), c .before .enum-told9 .given .1, c .before .before .match .keys10)
 
 returns-11 : tie.Need-returns-11
 unfolding codeOf
-returns-11 c = simp (c .before .enum-told10 .given .1, c .before .before .match .keys11, c .plain10 .ensures)
+returns-11 c = simp (← (c .plain10 .ensures), c .before .enum-told10 .given .1, c .before .before .match .keys11)
 
 returns-12 : tie.Need-returns-12
 unfolding codeOf
-returns-12 c = simp (c .before .enum-told11 .given .1, c .before .before .match .keys12, c .plain11 .ensures)
+returns-12 c = simp (← (c .plain11 .ensures), c .before .enum-told11 .given .1, c .before .before .match .keys12)
 
 returns-13 : tie.Need-returns-13
 unfolding codeOf
-returns-13 c = simp (c .before .enum-told12 .given .1, c .before .before .match .keys13, c .plain12 .ensures)
+returns-13 c = simp (← (c .plain12 .ensures), c .before .enum-told12 .given .1, c .before .before .match .keys13)
 
 returns-14 : tie.Need-returns-14
 unfolding codeOf
-returns-14 c = simp (c .before .enum-told13 .given .1, c .before .before .match .keys14, c .plain13 .ensures)
+returns-14 c = simp (← (c .plain13 .ensures), c .before .enum-told13 .given .1, c .before .before .match .keys14)
 
 returns-15 : tie.Need-returns-15
 unfolding codeOf
-returns-15 c = simp (c .before .enum-told14 .given .1, c .before .before .match .keys15, c .plain14 .ensures)
+returns-15 c = simp (← (c .plain14 .ensures), c .before .enum-told14 .given .1, c .before .before .match .keys15)
 
 returns-16 : tie.Need-returns-16
 unfolding codeOf
-returns-16 c = simp (c .before .enum-told15 .given .1, c .before .before .match .keys16, c .plain15 .ensures)
+returns-16 c = simp (← (c .plain15 .ensures), c .before .enum-told15 .given .1, c .before .before .match .keys16)
 
 returns-17 : tie.Need-returns-17
 unfolding codeOf
-returns-17 c = simp (c .before .enum-told16 .given .1, c .before .before .match .keys17, c .plain16 .ensures)
+returns-17 c = simp (← (c .plain16 .ensures), c .before .enum-told16 .given .1, c .before .before .match .keys17)
 
 returns-18 : tie.Need-returns-18
 unfolding codeOf
-returns-18 c = simp (c .before .enum-told17 .given .1, c .before .before .match .keys18, c .plain17 .ensures)
+returns-18 c = simp (← (c .plain17 .ensures), c .before .enum-told17 .given .1, c .before .before .match .keys18)
 
 returns-19 : tie.Need-returns-19
 unfolding codeOf
-returns-19 c = simp (c .before .enum-told18 .given .1, c .before .before .match .keys19, c .plain18 .ensures)
+returns-19 c = simp (← (c .plain18 .ensures), c .before .enum-told18 .given .1, c .before .before .match .keys19)
 
 returns-20 : tie.Need-returns-20
 unfolding codeOf
-returns-20 c = simp (c .before .enum-told19 .given .1, c .before .before .match .keys20, c .plain19 .ensures)
+returns-20 c = simp (← (c .plain19 .ensures), c .before .enum-told19 .given .1, c .before .before .match .keys20)
 
 returns-21 : tie.Need-returns-21
 unfolding codeOf
@@ -219,11 +225,15 @@ returns-21 c = simp (c .before .answer2 .given .1, c .before .before .match .key
 
 returns-22 : tie.Need-returns-22
 unfolding codeOf
-returns-22 c = simp (c .before .enum-told20 .given .1, c .before .before .match .keys22, c .plain20 .ensures)
+returns-22 c = simp (← (c .plain20 .ensures), c .before .enum-told20 .given .1, c .before .before .match .keys22)
 
 returns-23 : tie.Need-returns-23
 unfolding codeOf
 returns-23 c = simp (c .before .answer3 .given .1, c .before .before .match .keys23)
+
+returns-24 : tie.Need-returns-24
+unfolding codeOf
+returns-24 c = simp (← (c .plain21 .ensures), c .before .enum-told21 .given .1, c .before .before .match .keys24)
 
 pub code-of-spec : {M : Type 1} → statement M
 code-of-spec =
@@ -272,6 +282,8 @@ code-of-spec =
     enum-told-20
     plain-requires-20
     enum-known-answer-3
+    enum-told-21
+    plain-requires-21
     returns
     returns-2
     returns-3
@@ -294,4 +306,5 @@ code-of-spec =
     returns-20
     returns-21
     returns-22
-    returns-23)
+    returns-23
+    returns-24)

@@ -5,7 +5,7 @@ use Rattle.calls.proofs.guest.tell.Tie as tie
 
 returns : tie.Need-returns
 unfolding tellOf
-returns c = simp (c .before .before .if1 .taken)
+returns c = simp (c .before .before .before .if1 .taken)
 
 returns-2 : tie.Need-returns-2
 unfolding tellOf

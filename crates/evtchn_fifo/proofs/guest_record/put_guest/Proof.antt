@@ -16,13 +16,14 @@ put-u32-requires-2 c κs = search needs
 put-service-requires : tie.Need-put-service-requires
 put-service-requires c κs = search needs
 
+put-clear-requires : tie.Need-put-clear-requires
+put-clear-requires c κs = search needs
+
 same-length : tie.Need-same-length
 same-length c = search needs
 
 returns : tie.Need-returns
-returns c =
-    let a = c .before .before .before .before .before .before .before .before .before .before .before .before .before .before .before .before .before .before .before .args in
-    guest-numbers (a .bytes .now) (a .guest) (c .before .before .before .before .before .before .before .before .before .before .before .before .before .before .put-values .ensures) (c .before .before .before .before .before .before .before .before .before .before .put-u32 .ensures) (c .before .before .before .before .before .before .put-u322 .ensures) (c .before .before .put-service .ensures)
+returns c = guest-numbers (c .before .before .before .before .before .before .before .before .before .before .before .before .before .before .before .before .before .before .before .before .before .before .before .before .args .bytes .now) (c .before .before .before .before .before .before .before .before .before .before .before .before .before .before .before .before .before .before .before .before .before .before .before .before .args .guest) (c .before .before .before .before .before .before .before .before .before .before .before .before .before .before .before .before .before .before .put-values .ensures) (c .before .before .before .before .before .before .before .before .before .before .before .before .before .before .put-u32 .ensures) (c .before .before .before .before .before .before .before .before .before .before .put-u322 .ensures) (c .before .before .before .before .before .before .put-service .ensures) (c .before .before .put-clear .ensures)
 
 pub put-guest-spec : {M : Type 1} → statement M
 put-guest-spec =
@@ -32,5 +33,6 @@ put-guest-spec =
     put-u32-requires
     put-u32-requires-2
     put-service-requires
+    put-clear-requires
     same-length
     returns)

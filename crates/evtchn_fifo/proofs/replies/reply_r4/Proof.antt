@@ -1,6 +1,6 @@
 -- `evtchn_fifo::replies::reply_r4` meets its contract. Assumes nothing.
-use Rattle.evtchn_fifo.proofs.ReplyLaws.{tailed-move}
-use Rattle.calls.specs.Hypervisor.{replyR4}
+use Rattle.word.specs.Word.{linkBits}
+use Rattle.evtchn_fifo.proofs.TailLaws.{r4-taken, r4-first, r4-later}
 use borrow.Author.Needs.{needs}
 use Rattle.evtchn_fifo.proofs.replies.reply_r4.Statement.{statement}
 use Rattle.evtchn_fifo.proofs.replies.reply_r4.Tie as tie
@@ -11,28 +11,32 @@ call-at-requires c κs = search needs
 cas-taken-requires : tie.Need-cas-taken-requires
 cas-taken-requires c κs = search needs
 
-put-value-requires : tie.Need-put-value-requires
-put-value-requires c κs = search needs
-
-ends-requires : tie.Need-ends-requires
-ends-requires c κs = search needs
+ends-tailed-requires : tie.Need-ends-tailed-requires
+ends-tailed-requires c κs = search needs
 
 same-length : tie.Need-same-length
 same-length c = search needs
 
 returns : tie.Need-returns
-unfolding replyR4
-returns c = λ e. simp (← (c .before .before .ends .ensures), ← (c .before .before .before .before .before .before .put-value .ensures), c .before .before .before .before .before .before .before .before .before .before .if1 .taken, ← (c .before .before .before .before .before .before .before .before .before .before .before .cas-taken .ensures), ← (c .before .before .before .before .before .before .before .before .before .before .before .before .call-at .ensures), tailed-move)
+returns c = r4-taken linkBits (c .before .before .before .before .before .before .before .before .before .args .domain .now) (c .before .before .before .before .before .before .before .before .before .args .seen) (c .before .before .before .before .before .before .before .before .before .pre .1) (c .before .before .before .before .before .before .call-at .ensures) (c .before .before .before .before .before .cas-taken .ensures) (c .before .before .before .before .if1 .taken) (c .before .before .ends-tailed .ensures)
 
-tries-cas-requires : tie.Need-tries-cas-requires
-tries-cas-requires c κs = search needs
+after-first-cas-requires : tie.Need-after-first-cas-requires
+after-first-cas-requires c κs = search needs
 
 same-length-2 : tie.Need-same-length-2
 same-length-2 c = search needs
 
 returns-2 : tie.Need-returns-2
-unfolding replyR4
-returns-2 c = λ e. simp (← (simp (← (c .before .before .before .before .before .before .call-at .ensures)) at (c .before .before .tries-cas .ensures e)), ← (c .before .before .before .before .before .cas-taken .ensures), c .before .before .before .before .if1 .left, ← (c .before .before .before .before .before .before .call-at .ensures))
+returns-2 c = r4-first linkBits (c .before .before .before .before .before .before .before .before .before .before .before .args .domain .now) (c .before .before .before .before .before .before .before .before .before .before .before .args .seen) (c .before .before .before .before .before .before .before .before .before .before .before .pre .1) (c .before .before .before .before .before .before .before .before .call-at .ensures) (c .before .before .before .before .before .before .before .cas-taken .ensures) (c .before .before .before .before .before .before .if1 .left) (c .before .before .before .before .if2 .taken) (c .before .before .after-first-cas .ensures)
+
+after-later-cas-requires : tie.Need-after-later-cas-requires
+after-later-cas-requires c κs = search needs
+
+same-length-3 : tie.Need-same-length-3
+same-length-3 c = search needs
+
+returns-3 : tie.Need-returns-3
+returns-3 c = r4-later linkBits (c .before .before .before .before .before .before .before .before .before .before .before .args .domain .now) (c .before .before .before .before .before .before .before .before .before .before .before .args .seen) (c .before .before .before .before .before .before .before .before .before .before .before .pre .1) (c .before .before .before .before .before .before .before .before .call-at .ensures) (c .before .before .before .before .before .before .before .cas-taken .ensures) (c .before .before .before .before .before .before .if1 .left) (c .before .before .before .before .if2 .left) (c .before .before .after-later-cas .ensures)
 
 pub reply-r4-spec : {M : Type 1} → statement M
 reply-r4-spec =
@@ -40,10 +44,12 @@ reply-r4-spec =
     (tie.spec
     call-at-requires
     cas-taken-requires
-    put-value-requires
-    ends-requires
+    ends-tailed-requires
     same-length
     returns
-    tries-cas-requires
+    after-first-cas-requires
     same-length-2
-    returns-2)
+    returns-2
+    after-later-cas-requires
+    same-length-3
+    returns-3)

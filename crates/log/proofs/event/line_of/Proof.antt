@@ -28,11 +28,17 @@ access-line-requires-3 c κs = search needs
 enum-known-event-4 : tie.Need-enum-known-event-4
 enum-known-event-4 c = search needs
 
-answer-line-requires : tie.Need-answer-line-requires
-answer-line-requires c κs = search needs
+access-line-requires-4 : tie.Need-access-line-requires-4
+access-line-requires-4 c κs = search needs
 
 enum-known-event-5 : tie.Need-enum-known-event-5
 enum-known-event-5 c = search needs
+
+answer-line-requires : tie.Need-answer-line-requires
+answer-line-requires c κs = search needs
+
+enum-known-event-6 : tie.Need-enum-known-event-6
+enum-known-event-6 c = search needs
 
 answer-line-requires-2 : tie.Need-answer-line-requires-2
 answer-line-requires-2 c κs = search needs
@@ -55,11 +61,15 @@ returns-4 c = simp (c .before .before .event3 .given .1, c .before .before .befo
 
 returns-5 : tie.Need-returns-5
 unfolding lineOf
-returns-5 c = simp (c .before .before .event4 .given .1, c .before .before .before .match .keys5, c .answer-line .ensures)
+returns-5 c = simp (c .before .before .event4 .given .1, c .before .before .before .match .keys5, c .access-line4 .ensures)
 
 returns-6 : tie.Need-returns-6
 unfolding lineOf
-returns-6 c = simp (c .before .before .event5 .given .1, c .before .before .before .match .keys6, c .answer-line2 .ensures)
+returns-6 c = simp (c .before .before .event5 .given .1, c .before .before .before .match .keys6, c .answer-line .ensures)
+
+returns-7 : tie.Need-returns-7
+unfolding lineOf
+returns-7 c = simp (c .before .before .event6 .given .1, c .before .before .before .match .keys7, c .answer-line2 .ensures)
 
 pub line-of-spec : {M : Type 1} → statement M
 line-of-spec =
@@ -73,12 +83,15 @@ line-of-spec =
     enum-known-event-3
     access-line-requires-3
     enum-known-event-4
-    answer-line-requires
+    access-line-requires-4
     enum-known-event-5
+    answer-line-requires
+    enum-known-event-6
     answer-line-requires-2
     returns
     returns-2
     returns-3
     returns-4
     returns-5
-    returns-6)
+    returns-6
+    returns-7)

@@ -86,6 +86,15 @@ slice-aggregate-put-call-row-9 c = search needs
 put-call-row-requires-9 : tie.Need-put-call-row-requires-9
 put-call-row-requires-9 c κs = search needs
 
+enum-known-call-9 : tie.Need-enum-known-call-9
+enum-known-call-9 c = search needs
+
+slice-aggregate-put-call-row-10 : tie.Need-slice-aggregate-put-call-row-10
+slice-aggregate-put-call-row-10 c = search needs
+
+put-call-row-requires-10 : tie.Need-put-call-row-requires-10
+put-call-row-requires-10 c κs = search needs
+
 same-length : tie.Need-same-length
 same-length c = search needs
 
@@ -149,6 +158,13 @@ returns-9 : tie.Need-returns-9
 unfolding callBytes fieldOf
 returns-9 c = simp (c .before .before .before .before .before .before .call8 .given .1, c .before .before .put-call-row9 .ensures)
 
+same-length-10 : tie.Need-same-length-10
+same-length-10 c = search needs
+
+returns-10 : tie.Need-returns-10
+unfolding callBytes fieldOf
+returns-10 c = simp (c .before .before .before .before .before .before .call9 .given .1, c .before .before .put-call-row10 .ensures)
+
 pub put-call-spec : {M : Type 1} → statement M
 put-call-spec =
     tie.close
@@ -180,6 +196,9 @@ put-call-spec =
     enum-known-call-8
     slice-aggregate-put-call-row-9
     put-call-row-requires-9
+    enum-known-call-9
+    slice-aggregate-put-call-row-10
+    put-call-row-requires-10
     same-length
     returns
     same-length-2
@@ -197,4 +216,6 @@ put-call-spec =
     same-length-8
     returns-8
     same-length-9
-    returns-9)
+    returns-9
+    same-length-10
+    returns-10)

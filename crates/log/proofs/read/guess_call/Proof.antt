@@ -82,8 +82,8 @@ same-requires-6 c κs = search needs
 
 returns-6 : tie.Need-returns-6
 returns-6 c =
-    let bind = c .before .before .before in
-    let unmask = bind .before .before .before in
+    let clear = c .before .before .before in
+    let unmask = clear .before .before .before in
     let mask = unmask .before .before .before in
     let service = mask .before .before .before in
     let raise = service .before .before .before in
@@ -91,7 +91,7 @@ returns-6 c =
     (passed _ _ (service .before .same2 .ensures) (service .if2 .left)
     (passed _ _ (mask .before .same3 .ensures) (mask .if3 .left)
     (passed _ _ (unmask .before .same4 .ensures) (unmask .if4 .left)
-    (passed _ _ (bind .before .same5 .ensures) (bind .if5 .left)
+    (passed _ _ (clear .before .same5 .ensures) (clear .if5 .left)
     (taken _ _ (c .before .same6 .ensures) (c .if6 .taken))))))
 
 slice-aggregate-same-7 : tie.Need-slice-aggregate-same-7
@@ -102,9 +102,9 @@ same-requires-7 c κs = search needs
 
 returns-7 : tie.Need-returns-7
 returns-7 c =
-    let close = c .before .before .before in
-    let bind = close .before .before .before in
-    let unmask = bind .before .before .before in
+    let bind = c .before .before .before in
+    let clear = bind .before .before .before in
+    let unmask = clear .before .before .before in
     let mask = unmask .before .before .before in
     let service = mask .before .before .before in
     let raise = service .before .before .before in
@@ -112,8 +112,8 @@ returns-7 c =
     (passed _ _ (service .before .same2 .ensures) (service .if2 .left)
     (passed _ _ (mask .before .same3 .ensures) (mask .if3 .left)
     (passed _ _ (unmask .before .same4 .ensures) (unmask .if4 .left)
-    (passed _ _ (bind .before .same5 .ensures) (bind .if5 .left)
-    (passed _ _ (close .before .same6 .ensures) (close .if6 .left)
+    (passed _ _ (clear .before .same5 .ensures) (clear .if5 .left)
+    (passed _ _ (bind .before .same6 .ensures) (bind .if6 .left)
     (taken _ _ (c .before .same7 .ensures) (c .if7 .taken)))))))
 
 slice-aggregate-same-8 : tie.Need-slice-aggregate-same-8
@@ -124,10 +124,10 @@ same-requires-8 c κs = search needs
 
 returns-8 : tie.Need-returns-8
 returns-8 c =
-    let priority = c .before .before .before in
-    let close = priority .before .before .before in
+    let close = c .before .before .before in
     let bind = close .before .before .before in
-    let unmask = bind .before .before .before in
+    let clear = bind .before .before .before in
+    let unmask = clear .before .before .before in
     let mask = unmask .before .before .before in
     let service = mask .before .before .before in
     let raise = service .before .before .before in
@@ -135,17 +135,24 @@ returns-8 c =
     (passed _ _ (service .before .same2 .ensures) (service .if2 .left)
     (passed _ _ (mask .before .same3 .ensures) (mask .if3 .left)
     (passed _ _ (unmask .before .same4 .ensures) (unmask .if4 .left)
-    (passed _ _ (bind .before .same5 .ensures) (bind .if5 .left)
-    (passed _ _ (close .before .same6 .ensures) (close .if6 .left)
-    (passed _ _ (priority .before .same7 .ensures) (priority .if7 .left)
+    (passed _ _ (clear .before .same5 .ensures) (clear .if5 .left)
+    (passed _ _ (bind .before .same6 .ensures) (bind .if6 .left)
+    (passed _ _ (close .before .same7 .ensures) (close .if7 .left)
     (taken _ _ (c .before .same8 .ensures) (c .if8 .taken))))))))
+
+slice-aggregate-same-9 : tie.Need-slice-aggregate-same-9
+slice-aggregate-same-9 c = search needs
+
+same-requires-9 : tie.Need-same-requires-9
+same-requires-9 c κs = search needs
 
 returns-9 : tie.Need-returns-9
 returns-9 c =
     let priority = c .before .before .before in
     let close = priority .before .before .before in
     let bind = close .before .before .before in
-    let unmask = bind .before .before .before in
+    let clear = bind .before .before .before in
+    let unmask = clear .before .before .before in
     let mask = unmask .before .before .before in
     let service = mask .before .before .before in
     let raise = service .before .before .before in
@@ -153,10 +160,31 @@ returns-9 c =
     (passed _ _ (service .before .same2 .ensures) (service .if2 .left)
     (passed _ _ (mask .before .same3 .ensures) (mask .if3 .left)
     (passed _ _ (unmask .before .same4 .ensures) (unmask .if4 .left)
-    (passed _ _ (bind .before .same5 .ensures) (bind .if5 .left)
-    (passed _ _ (close .before .same6 .ensures) (close .if6 .left)
-    (passed _ _ (priority .before .same7 .ensures) (priority .if7 .left)
-    (passed _ _ (c .before .same8 .ensures) (c .if8 .left) refl)))))))
+    (passed _ _ (clear .before .same5 .ensures) (clear .if5 .left)
+    (passed _ _ (bind .before .same6 .ensures) (bind .if6 .left)
+    (passed _ _ (close .before .same7 .ensures) (close .if7 .left)
+    (passed _ _ (priority .before .same8 .ensures) (priority .if8 .left)
+    (taken _ _ (c .before .same9 .ensures) (c .if9 .taken)))))))))
+
+returns-10 : tie.Need-returns-10
+returns-10 c =
+    let priority = c .before .before .before in
+    let close = priority .before .before .before in
+    let bind = close .before .before .before in
+    let clear = bind .before .before .before in
+    let unmask = clear .before .before .before in
+    let mask = unmask .before .before .before in
+    let service = mask .before .before .before in
+    let raise = service .before .before .before in
+    passed _ _ (raise .before .same .ensures) (raise .if1 .left)
+    (passed _ _ (service .before .same2 .ensures) (service .if2 .left)
+    (passed _ _ (mask .before .same3 .ensures) (mask .if3 .left)
+    (passed _ _ (unmask .before .same4 .ensures) (unmask .if4 .left)
+    (passed _ _ (clear .before .same5 .ensures) (clear .if5 .left)
+    (passed _ _ (bind .before .same6 .ensures) (bind .if6 .left)
+    (passed _ _ (close .before .same7 .ensures) (close .if7 .left)
+    (passed _ _ (priority .before .same8 .ensures) (priority .if8 .left)
+    (passed _ _ (c .before .same9 .ensures) (c .if9 .left) refl))))))))
 
 pub guess-call-spec : {M : Type 1} → statement M
 guess-call-spec =
@@ -186,4 +214,7 @@ guess-call-spec =
     slice-aggregate-same-8
     same-requires-8
     returns-8
-    returns-9)
+    slice-aggregate-same-9
+    same-requires-9
+    returns-9
+    returns-10)

@@ -19,12 +19,18 @@ mask-requires c κs = search needs
 enum-known-start-2 : tie.Need-enum-known-start-2
 enum-known-start-2 c = search needs
 
+clear-mask-requires : tie.Need-clear-mask-requires
+clear-mask-requires c κs = search needs
+
+enum-known-start-3 : tie.Need-enum-known-start-3
+enum-known-start-3 c = search needs
+
 tell-requires : tie.Need-tell-requires
 tell-requires c κs = search needs
 
 returns : tie.Need-returns
 unfolding guestStartOf
-returns c = simp (c .before .enum-told .given .1, c .before .before .match .keys1, c .service .ensures)
+returns c = simp (← (c .service .ensures), c .before .enum-told .given .1, c .before .before .match .keys1)
 
 same-length : tie.Need-same-length
 same-length c = search needs
@@ -34,11 +40,15 @@ same-length-2 c = search needs
 
 returns-2 : tie.Need-returns-2
 unfolding guestStartOf
-returns-2 c = simp (c .before .before .before .before .before .before .before .before .start .given .1, c .before .before .before .before .before .before .before .before .before .match .keys2, c .before .before .before .before .mask .ensures)
+returns-2 c = simp (← (c .before .before .before .before .mask .ensures), c .before .before .before .before .before .before .before .before .start .given .1, c .before .before .before .before .before .before .before .before .before .match .keys2)
 
 returns-3 : tie.Need-returns-3
 unfolding guestStartOf
-returns-3 c = simp (c .before .before .start2 .given .1, c .before .before .before .match .keys3, c .tell .ensures)
+returns-3 c = simp (← (c .clear-mask .ensures), c .before .before .start2 .given .1, c .before .before .before .match .keys3)
+
+returns-4 : tie.Need-returns-4
+unfolding guestStartOf
+returns-4 c = simp (← (c .tell .ensures), c .before .before .start3 .given .1, c .before .before .before .match .keys4)
 
 pub guest-start-spec : {M : Type 1} → statement M
 guest-start-spec =
@@ -49,9 +59,12 @@ guest-start-spec =
     enum-known-start
     mask-requires
     enum-known-start-2
+    clear-mask-requires
+    enum-known-start-3
     tell-requires
     returns
     same-length
     same-length-2
     returns-2
-    returns-3)
+    returns-3
+    returns-4)

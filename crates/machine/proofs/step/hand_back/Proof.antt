@@ -16,8 +16,8 @@ hypervisor-advance-requires c κs = search needs
 enum-told-2 : tie.Need-enum-told-2
 enum-told-2 c = search needs
 
-service-reply-requires : tie.Need-service-reply-requires
-service-reply-requires c κs = search needs
+guest-reply-requires : tie.Need-guest-reply-requires
+guest-reply-requires c κs = search needs
 
 guest-advance-requires : tie.Need-guest-advance-requires
 guest-advance-requires c κs = search needs
@@ -31,7 +31,7 @@ returns c = simp (← (c .hypervisor-advance .ensures), ← (c .before .before .
 
 returns-2 : tie.Need-returns-2
 unfolding handBack
-returns-2 c = simp (c .before .before .enum-told2 .given .1, c .before .before .before .match .keys2, c .guest-advance .ensures, c .before .service-reply .ensures)
+returns-2 c = simp (← (c .guest-advance .ensures), ← (c .before .guest-reply .ensures), c .before .before .enum-told2 .given .1, c .before .before .before .match .keys2)
 
 pub hand-back-spec : {M : Type 1} → statement M
 hand-back-spec =
@@ -41,7 +41,7 @@ hand-back-spec =
     reply-requires
     hypervisor-advance-requires
     enum-told-2
-    service-reply-requires
+    guest-reply-requires
     guest-advance-requires
     same-length
     returns

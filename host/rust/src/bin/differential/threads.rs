@@ -34,11 +34,16 @@ fn told(conduct: Conduct, account: &Account) -> String {
         hand_overs,
         closes,
     } = sum;
-    let (calls, accesses) = (account.calls, account.accesses);
+    let (calls, accesses, busy) = (account.calls, account.accesses, account.busy);
+    let [cleared, unmasked] = account.clears;
     match conduct {
         Conduct::Honest => format!(
-            "{calls} calls, {accesses} accesses; PENDING set {sets} = handed over {hand_overs} + closed {closes}"
+            "{calls} calls, {accesses} accesses; PENDING set {sets} = handed over {hand_overs} + \
+             closed {closes}; clear_masks without a call {cleared}, with an unmask {unmasked}; \
+             BUSY set {busy} times"
         ),
-        Conduct::Hostile => format!("{calls} calls, {accesses} accesses, none outside; {sets} events"),
+        Conduct::Hostile => {
+            format!("{calls} calls, {accesses} accesses, none outside; {sets} events")
+        }
     }
 }

@@ -1,4 +1,4 @@
-//! The six calls: the state before each, its answer, and the words that it must leave.
+//! The calls: the state before each, its answer, and the words that it must leave.
 
 use crate::host::Host;
 use evtchn_fifo_host::model::{Answer, Entry, Masking, Model, Next, Port, Queue};
@@ -22,6 +22,7 @@ pub enum Call {
     RaiseTail,
     Service,
     Unmask,
+    ClearMask,
     Bind,
     Refused,
 }
@@ -89,6 +90,7 @@ impl Call {
             "raise-tail" => Call::RaiseTail,
             "service" => Call::Service,
             "unmask" => Call::Unmask,
+            "clear-mask" => Call::ClearMask,
             "bind" => Call::Bind,
             "refused" => Call::Refused,
             _ => return None,
@@ -111,6 +113,7 @@ impl Call {
                 mask(host)?;
                 bind_and_raise(host, PORT)
             }
+            Call::ClearMask => mask(host),
             Call::Bind | Call::Refused => Ok(()),
         }
     }
@@ -121,6 +124,7 @@ impl Call {
             Call::RaiseEmpty | Call::RaiseTail | Call::Refused => host.raise(PORT),
             Call::Service => host.service(),
             Call::Unmask => host.unmask(PORT),
+            Call::ClearMask => host.clear_mask(PORT),
             Call::Bind => host.bind(PORT),
         }
     }
@@ -131,6 +135,7 @@ impl Call {
             Call::RaiseEmpty | Call::Unmask => (Answer::UpcallWanted, 4),
             Call::RaiseTail => (Answer::Done, 4),
             Call::Service => (Answer::HandedOver(Port(PORT)), 5),
+            Call::ClearMask => (Answer::Done, 2),
             Call::Bind => (Answer::Done, 1),
             Call::Refused => (Answer::NotBound, 0),
         };
@@ -156,6 +161,7 @@ impl Call {
                 ready: 0,
                 ..before
             },
+            Call::ClearMask => Words { word: 0, ..before },
             Call::Bind => Words {
                 entry: Entry {
                     bound: true,

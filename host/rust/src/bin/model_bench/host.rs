@@ -43,7 +43,12 @@ mod counted {
 
     #[inline(never)]
     pub fn service_reply(host: &mut Host, seen: u32) -> Next {
-        Model::default().service_reply(&mut host.guest, seen)
+        Model::default().guest_reply(&mut host.guest, seen)
+    }
+
+    #[inline(never)]
+    pub fn clear_mask(host: &mut Host, port: u32) -> Next {
+        Model::default().clear_mask(&mut host.guest, port.into())
     }
 }
 
@@ -84,6 +89,12 @@ impl Host {
     /// service, from its start to its answer.
     pub fn service(&mut self) -> Next {
         let next = counted::service(self);
+        self.finish(next, counted::service_reply)
+    }
+
+    /// clear_mask, from its start to its answer.
+    pub fn clear_mask(&mut self, port: u32) -> Next {
+        let next = counted::clear_mask(self, port);
         self.finish(next, counted::service_reply)
     }
 

@@ -2,7 +2,7 @@
 //! Lines per second of a replay, by the library and by the model: `model_bench --replay FILE`, of a
 //! log that `model_bench --write-log FILE LINES` writes.
 //!
-//! The six calls of `host/c/bench/bench.c`, measured as it does: each repeat puts back the few words
+//! Seven calls of `host/c/bench/bench.c`, measured as it does: each repeat puts back the few words
 //! that calls change, makes the call and compares its answer, its count of accesses and the words
 //! left. Prints the nanoseconds of a call: those of the repeats less those of repeats without it.
 

@@ -5,7 +5,7 @@ use crate::corpus::log::Log;
 use crate::random::Random;
 use std::ops::Range;
 
-const NAMES: [&[u8]; 9] = [
+const NAMES: [&[u8]; 10] = [
     b"init_control",
     b"expand_array",
     b"bind",
@@ -15,6 +15,7 @@ const NAMES: [&[u8]; 9] = [
     b"unmask",
     b"service",
     b"mask",
+    b"clear_mask",
 ];
 const KINDS: [&[u8]; 8] = [
     b"read", b"store", b"or", b"and", b"swap", b"cas", b"answer", b"call",
@@ -29,7 +30,7 @@ const UNKNOWN: [&[u8]; 18] = [
     b"move",
     b"import",
     b"export",
-    b"clear_mask",
+    b"clear_masks",
     b"reply",
     b"xor",
     b"Read",

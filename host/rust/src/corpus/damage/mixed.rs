@@ -4,7 +4,7 @@ use super::{bytes, lines};
 use crate::corpus::log::Log;
 use crate::random::Random;
 
-const WORDS: [&[u8]; 34] = [
+const WORDS: [&[u8]; 35] = [
     b"X",
     b"G",
     b"call",
@@ -24,6 +24,7 @@ const WORDS: [&[u8]; 34] = [
     b"unmask",
     b"service",
     b"mask",
+    b"clear_mask",
     b"ready",
     b"w5",
     b"h7",
@@ -76,7 +77,7 @@ pub fn two(random: &mut Random, log: &Log) -> Vec<u8> {
 /// A line of six of the form's words: mostly each of a kind that can stand there.
 pub fn words(random: &mut Random, log: &Log) -> Vec<u8> {
     let mut line = Vec::new();
-    let places = [0..2, 2..10, 10..26, 23..34, 23..34, 23..34];
+    let places = [0..2, 2..10, 10..27, 24..35, 24..35, 24..35];
     for place in places {
         let word = match random.once_in(12) {
             true => random.pick(&WORDS),

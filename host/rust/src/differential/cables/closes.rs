@@ -96,7 +96,7 @@ fn unlisted(cabled: &mut Cabled, random: &mut Random) {
     let pair = &mut cabled.pairs[0];
     let bytes = pair.lent.domain.bytes_mut();
     if pair.world.domain.call.is_none() && bytes.len() >= STAGE + 4 {
-        let (owner, stage) = random.pick(&[(0, 0), (2, 6), (2, 1 << 8), (258, 0), (5, 0)]);
+        let (owner, stage) = random.pick(&[(0, 0), (2, 8), (2, 1 << 8), (258, 0), (5, 0)]);
         put_number(bytes, OWNER, owner);
         put_number(bytes, STAGE, stage);
     }

@@ -222,12 +222,13 @@ impl Honest {
     /// Any other call of the domain.
     fn other(&self, cabled: &mut Cabled, random: &mut Random, at: usize) -> Result<(), String> {
         let (port, priority) = (self.port(random), random.below(17));
-        let step = match random.below(6) {
+        let step = match random.below(7) {
             0 => Step::Raise(port),
             1 => Step::Unmask(port),
             2 => Step::Bind(port),
             3 => Step::SetPriority { port, priority },
             4 => Step::Mask(port),
+            5 => Step::ClearMask(port),
             _ => init(),
         };
         cabled.plain(at, step).map(drop)
@@ -302,11 +303,11 @@ fn expand(cabled: &mut Cabled, at: usize) -> Result<(), String> {
     cabled.plain(at, Step::Tell(words)).map(drop)
 }
 
-/// The access that a service waits for, or a service's start.
+/// The access that the guest waits for, or a service's start.
 fn guest(cabled: &mut Cabled, at: usize) -> Result<(), String> {
-    let step = match cabled.pairs[at].world.guest.call {
-        Some(_) => Step::Access(Side::Guest),
-        None => Step::Service,
+    let step = match cabled.pairs[at].world.guest.is_under_way() {
+        true => Step::Access(Side::Guest),
+        false => Step::Service,
     };
     cabled.plain(at, step).map(drop)
 }

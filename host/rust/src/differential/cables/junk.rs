@@ -46,7 +46,7 @@ fn lend_record(cabled: &mut Cabled, random: &mut Random, at: usize) {
     if domain.bytes().len() < STAGE + 4 {
         return;
     }
-    let close_stage = random.pick(&[0, 0, 0, 1, 3, 5, 6]);
+    let close_stage = random.pick(&[0, 0, 0, 1, 3, 5, 7, 8]);
     match random.below(4) {
         0 => {
             put_number(domain.bytes_mut(), OWNER, 2);

@@ -80,6 +80,6 @@ fn giving_out(accessed: &Accessed) -> Option<(Queue, Port)> {
             ServiceStage::G2 { queue, port } => Some((queue, port)),
             _ => None,
         },
-        Maker::Call(_) | Maker::Mask(_) => None,
+        Maker::Call(_) | Maker::ClearMask(_) | Maker::Mask(_) => None,
     }
 }

@@ -82,7 +82,7 @@ pub fn part4(world: &World) -> Result<(), Broken> {
 
 /// No call under way on either side, local bits 0, READY's low sixteen bits 0.
 pub fn at_rest(world: &World) -> bool {
-    let calls = world.domain.call.is_some() || world.guest.call.is_some();
+    let calls = world.domain.call.is_some() || world.guest.is_under_way();
     !calls && local_bits(world.guest.local | world.memory.control.ready) == 0
 }
 

@@ -17,6 +17,7 @@ pub enum LoggedCall {
     Unmask(u32),
     Service,
     Mask(u32),
+    ClearMask(u32),
 }
 
 /// A line. The form's lines are those that `Line::of` and `read` make: a store's access alone has
@@ -71,6 +72,7 @@ impl LoggedCall {
             Step::Unmask(port) => LoggedCall::Unmask(decimal(port)?),
             Step::Service => LoggedCall::Service,
             Step::Mask(port) => LoggedCall::Mask(decimal(port)?),
+            Step::ClearMask(port) => LoggedCall::ClearMask(decimal(port)?),
             Step::MaskWithin { .. } | Step::Tell(_) | Step::Access(_) | Step::HandBack(..) => {
                 return None
             }
@@ -80,7 +82,7 @@ impl LoggedCall {
     /// The side whose call it is.
     pub fn side(self) -> Side {
         match self {
-            LoggedCall::Service | LoggedCall::Mask(_) => Side::Guest,
+            LoggedCall::Service | LoggedCall::Mask(_) | LoggedCall::ClearMask(_) => Side::Guest,
             _ => Side::Hypervisor,
         }
     }
@@ -97,6 +99,7 @@ impl LoggedCall {
             LoggedCall::Unmask(_) => "unmask",
             LoggedCall::Service => "service",
             LoggedCall::Mask(_) => "mask",
+            LoggedCall::ClearMask(_) => "clear_mask",
         }
     }
 
@@ -114,7 +117,8 @@ impl LoggedCall {
             | LoggedCall::Close(port)
             | LoggedCall::Raise(port)
             | LoggedCall::Unmask(port)
-            | LoggedCall::Mask(port) => [Some(port), None, None],
+            | LoggedCall::Mask(port)
+            | LoggedCall::ClearMask(port) => [Some(port), None, None],
             LoggedCall::Service => [None; 3],
         }
     }
@@ -146,6 +150,7 @@ impl LoggedCall {
             LoggedCall::Unmask(port) => Step::Unmask(port.into()),
             LoggedCall::Service => Step::Service,
             LoggedCall::Mask(port) => Step::Mask(port.into()),
+            LoggedCall::ClearMask(port) => Step::ClearMask(port.into()),
         }
     }
 }

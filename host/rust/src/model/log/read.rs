@@ -62,6 +62,7 @@ fn call(side: Side, [name, first, second, third]: [Field<'_>; 4]) -> Option<Logg
         b"raise" => LoggedCall::Raise(on_port()?),
         b"unmask" => LoggedCall::Unmask(on_port()?),
         b"mask" => LoggedCall::Mask(on_port()?),
+        b"clear_mask" => LoggedCall::ClearMask(on_port()?),
         b"service" => {
             dashes([first, second, third])?;
             LoggedCall::Service

@@ -3,7 +3,7 @@
 use crate::model::access::Access;
 use crate::model::answer::Answer;
 use crate::model::domain::Call;
-use crate::model::guest::Service;
+use crate::model::guest::{ClearMask, Service};
 use crate::model::kinds::Port;
 use std::ops::Deref;
 
@@ -23,6 +23,8 @@ pub enum Maker {
     Call(Call),
     /// A service.
     Service(Service),
+    /// A clear_mask.
+    ClearMask(ClearMask),
     /// A mask.
     Mask(Port),
 }
@@ -91,7 +93,7 @@ impl Maker {
     pub fn side(&self) -> Side {
         match self {
             Maker::Call(_) => Side::Hypervisor,
-            Maker::Service(_) | Maker::Mask(_) => Side::Guest,
+            Maker::Service(_) | Maker::ClearMask(_) | Maker::Mask(_) => Side::Guest,
         }
     }
 }

@@ -35,6 +35,8 @@ pub enum Step {
     Unmask(u64),
     /// Start of a service.
     Service,
+    /// Start of a clear_mask.
+    ClearMask(u64),
     /// A mask with its access, by the guest record's number of words.
     Mask(u64),
     /// A mask with its access, by any number of words.
@@ -103,6 +105,9 @@ impl World {
             Step::Raise(port) => model.raise(domain, ledger, port),
             Step::Unmask(port) => model.unmask(domain, ledger, port),
             Step::Service => return given(Side::Guest, None, model.service(&mut self.guest)),
+            Step::ClearMask(port) => {
+                return given(Side::Guest, None, model.clear_mask(&mut self.guest, port))
+            }
             Step::Mask(port) => return self.mask(port, self.guest.words.into()),
             Step::MaskWithin { port, words } => return self.mask(port, words),
             Step::Tell(words) => return self.tell(words),
@@ -151,11 +156,14 @@ impl World {
                 let access = self.model.due(&self.domain)?;
                 Some((Maker::Call(self.domain.call?), access))
             }
-            Side::Guest => {
-                let access = self.model.service_due(&self.guest)?;
-                Some((Maker::Service(self.guest.call?), access))
-            }
+            Side::Guest => Some((self.guest_maker()?, self.model.guest_due(&self.guest)?)),
         }
+    }
+
+    /// The guest's call whose access is due: its clear_mask, else its service.
+    fn guest_maker(&self) -> Option<Maker> {
+        let clearing = self.guest.clearing.map(Maker::ClearMask);
+        clearing.or(self.guest.call.map(Maker::Service))
     }
 
     /// D19: without a call under way, a reply of 0.
@@ -171,7 +179,7 @@ impl World {
         let due = self.due(side);
         let next = match side {
             Side::Hypervisor => self.model.reply(&mut self.domain, &mut self.ledger, seen),
-            Side::Guest => self.model.service_reply(&mut self.guest, seen),
+            Side::Guest => self.model.guest_reply(&mut self.guest, seen),
         };
         let accessed = due.map(|(maker, access)| {
             let accepted = next != Next::Answer(Answer::NoEntry, 0);

@@ -10,7 +10,6 @@ mod seeded;
 use super::domain::PAGE_WORDS;
 use super::log::{read, Line, LoggedCall};
 use super::machine::{Events, Side, Step, World};
-use super::Model;
 pub use report::Report;
 pub use seeded::{faulty_replay, ReplayFault};
 
@@ -53,7 +52,7 @@ impl Replay {
     fn faulty(fault: ReplayFault, entries: usize, words: usize) -> Self {
         Replay {
             fault,
-            world: World::fresh(Model::default(), words, entries),
+            world: World::fresh(fault.model(), words, entries),
             due: [Some(Line::Header), None],
             lines: 0,
             stopped: None,
@@ -150,9 +149,12 @@ impl Replay {
             return Err(Stop::NotLent);
         }
         let pages = self.world.domain.pages;
-        let stepped = self.world.step(call.step(FRAMES));
+        let mut stepped = self.world.step(call.step(FRAMES));
         if self.world.domain.pages > pages && !self.has(ReplayFault::NoTell) {
             self.world.step(Step::Tell(self.world.domain.words()));
+        }
+        if self.makes_access(call, stepped.next) {
+            stepped = self.world.step(Step::Access(Side::Guest));
         }
         self.due = lines(&stepped.events);
         if matches!(call, LoggedCall::Mask(_)) && self.has(ReplayFault::MaskUndue) {

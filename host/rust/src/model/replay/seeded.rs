@@ -4,6 +4,7 @@ use super::{Replay, Report, Stop};
 use crate::model::domain::PAGE_WORDS;
 use crate::model::log::{Line, LoggedCall};
 use crate::model::machine::Side;
+use crate::model::{Faults, Model, Next};
 
 /// A single fault; `None` is the rules as written.
 #[derive(Clone, Copy, Debug, Default, PartialEq, Eq)]
@@ -26,11 +27,15 @@ pub enum ReplayFault {
     StrayAnswer,
     SecondHeader,
     LastNewline,
+    ClearMaskDue,
+    ServiceFirst,
+    ClearMaskDone,
+    PlainCas,
 }
 
 impl ReplayFault {
     /// Every fault in words.
-    pub const ALL: [(ReplayFault, &'static str); 15] = [
+    pub const ALL: [(ReplayFault, &'static str); 19] = [
         (ReplayFault::NeverDiffers, "no line differs"),
         (ReplayFault::IgnoresEnd, "what is due at the end is ignored"),
         (
@@ -61,7 +66,30 @@ impl ReplayFault {
             ReplayFault::LastNewline,
             "a last line without its newline is ignored",
         ),
+        (
+            ReplayFault::ClearMaskDue,
+            "a clear_mask's access is due as a mask's is",
+        ),
+        (
+            ReplayFault::ServiceFirst,
+            "a service's access comes before a clear_mask's",
+        ),
+        (ReplayFault::ClearMaskDone, "0 where a clear_mask gives 35"),
+        (
+            ReplayFault::PlainCas,
+            "a second cas follows the first at once",
+        ),
     ];
+
+    /// The rules that the calls are run by.
+    pub(super) fn model(self) -> Model {
+        Model::new(match self {
+            ReplayFault::ServiceFirst => Faults::DueOfService,
+            ReplayFault::ClearMaskDone => Faults::ClearLostDone,
+            ReplayFault::PlainCas => Faults::BusyNever,
+            _ => Faults::None,
+        })
+    }
 }
 
 /// The report on a whole log by rules with a fault.
@@ -83,6 +111,12 @@ pub fn faulty_replay(fault: ReplayFault, entries: usize, words: usize, text: &[u
 impl Replay {
     pub(super) fn has(&self, fault: ReplayFault) -> bool {
         self.fault == fault
+    }
+
+    /// Whether a call's first access is made with its line: only a mask's is, in its step.
+    pub(super) fn makes_access(&self, call: LoggedCall, next: Next) -> bool {
+        let clears = matches!((call, next), (LoggedCall::ClearMask(_), Next::Access(_)));
+        clears && self.has(ReplayFault::ClearMaskDue)
     }
 
     /// The line still due at the end.

@@ -110,6 +110,12 @@ enum-known-call-8 c = search needs
 mask-requires : tie.Need-mask-requires
 mask-requires c κs = (c .before .before .before .before .before .before .before .before .before .before .before .before .before .pre .1, c .before .before .before .before .before .before .before .before .before .before .before .before .before .pre .2, as-legal (c .before .before .before .before .before .call8 .given .1) (c .before .before .before .before .before .before .before .before .before .before .before .before .before .pre .3))
 
+enum-known-call-9 : tie.Need-enum-known-call-9
+enum-known-call-9 c = search needs
+
+clear-mask-requires : tie.Need-clear-mask-requires
+clear-mask-requires c κs = (c .before .before .before .before .before .before .before .before .before .before .before .pre .1, c .before .before .before .before .before .before .before .before .before .before .before .pre .2, as-legal (c .before .before .before .call9 .given .1) (c .before .before .before .before .before .before .before .before .before .before .before .pre .3))
+
 same-length : tie.Need-same-length
 same-length c = search needs
 
@@ -224,6 +230,15 @@ same-length-27 c = search needs
 returns-9 : tie.Need-returns-9
 returns-9 c = as-begins (worldIn (c .before .before .before .before .before .before .before .before .before .before .before .before .before .before .before .before .before .before .before .before .args .domain .now) (c .before .before .before .before .before .before .before .before .before .before .before .before .before .before .before .before .before .before .before .before .args .ledger .now) (c .before .before .before .before .before .before .before .before .before .before .before .before .before .before .before .before .before .before .before .before .args .guest .now) (c .before .before .before .before .before .before .before .before .before .before .before .before .before .before .before .before .before .before .before .before .args .words .now) (c .before .before .before .before .before .before .before .before .before .before .before .before .before .before .before .before .before .before .before .before .args .block .now)) _ (c .before .before .before .before .before .before .before .before .before .before .before .before .call8 .given .1) (c .before .before .before .before .before .before .mask .ensures _ _ (c .before .before .before .before .before .before .before .before .before .before .before .before .before .before .before .before .before .before .before .before .pre .0))
 
+same-length-28 : tie.Need-same-length-28
+same-length-28 c = search needs
+
+same-length-29 : tie.Need-same-length-29
+same-length-29 c = search needs
+
+returns-10 : tie.Need-returns-10
+returns-10 c = as-begins (worldIn (c .before .before .before .before .before .before .before .before .before .before .before .before .before .before .before .before .args .domain .now) (c .before .before .before .before .before .before .before .before .before .before .before .before .before .before .before .before .args .ledger .now) (c .before .before .before .before .before .before .before .before .before .before .before .before .before .before .before .before .args .guest .now) (c .before .before .before .before .before .before .before .before .before .before .before .before .before .before .before .before .args .words .now) (c .before .before .before .before .before .before .before .before .before .before .before .before .before .before .before .before .args .block .now)) _ (c .before .before .before .before .before .before .before .before .call9 .given .1) (c .before .before .before .before .clear-mask .ensures _ _ _ _ (c .before .before .before .before .before .before .before .before .before .before .before .before .before .before .before .before .pre .0))
+
 pub begin-spec : {M : Type 1} → statement M
 begin-spec =
     tie.close
@@ -261,6 +276,8 @@ begin-spec =
     service-requires
     enum-known-call-8
     mask-requires
+    enum-known-call-9
+    clear-mask-requires
     same-length
     same-length-2
     returns
@@ -296,4 +313,7 @@ begin-spec =
     same-length-25
     same-length-26
     same-length-27
-    returns-9)
+    returns-9
+    same-length-28
+    same-length-29
+    returns-10)

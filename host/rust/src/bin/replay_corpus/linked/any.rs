@@ -2,7 +2,7 @@
 //! that has stopped it changes nothing.
 
 use super::buffers::Buffers;
-use evtchn_fifo_host::boundary::records::{put_number, GUEST_STAGE, OWNER, STAGE};
+use evtchn_fifo_host::boundary::records::{put_number, CLEAR_STAGE, GUEST_STAGE, OWNER, STAGE};
 use evtchn_fifo_host::boundary::replay::{Lent, Position, LINE_SIZE};
 use evtchn_fifo_host::corpus::lines;
 use evtchn_fifo_host::crash;
@@ -42,8 +42,9 @@ pub fn run(seed: u64) -> Result<String, String> {
 fn position(random: &mut Random, lent: &mut Lent<'_>) -> Position {
     if !random.once_in(4) {
         put_number(lent.domain, OWNER, random.below(6) as u32);
-        put_number(lent.domain, STAGE, random.below(7) as u32);
+        put_number(lent.domain, STAGE, random.below(9) as u32);
         put_number(lent.guest, GUEST_STAGE, random.below(7) as u32);
+        put_number(lent.guest, CLEAR_STAGE, random.below(4) as u32);
     }
     let mut due = random.pick(&LENGTHS);
     if random.once_in(3) {

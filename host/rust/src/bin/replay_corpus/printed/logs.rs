@@ -6,19 +6,20 @@ use crate::edges::edges;
 use crate::LENT;
 use evtchn_fifo_host::corpus::cases::Damaged;
 use evtchn_fifo_host::corpus::sample::each_byte;
-use evtchn_fifo_host::corpus::{busy, good, Recorder, Shape};
+use evtchn_fifo_host::corpus::{busy, good, meeting, Recorder, Shape};
 use evtchn_fifo_host::random::Random;
 
 /// Good logs of a kind: its name, their number, how one is recorded, and which damages they take.
 type Kind = (&'static str, u64, fn(&mut Random) -> Recorder, Which);
 type Which = fn(&str) -> bool;
 
-const KINDS: [Kind; 5] = [
+const KINDS: [Kind; 6] = [
     ("an entry for every port", 50, every_entry, |_| true),
     ("any lent", 65, any_lent, |_| true),
     ("128 pages", 6, all_pages, |_| true),
     ("busy", 1, both_busy, |_| true),
     ("few damages", 600, every_entry, seldom_met),
+    ("both sides on few words", 200, meeting::record, seldom_met),
 ];
 /// Lines of a busy log: more bytes than are read at once.
 const BUSY_LINES: usize = 20_000;
@@ -66,7 +67,7 @@ fn every_entry(random: &mut Random) -> Recorder {
 
 /// Also short ledgers: such a log differs where a port had no entry.
 fn any_lent(random: &mut Random) -> Recorder {
-    good::record(random).1
+    good::record_any(random).1
 }
 
 fn all_pages(random: &mut Random) -> Recorder {
