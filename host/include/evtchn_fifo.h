@@ -40,6 +40,12 @@
  * hand back the same word. Never perform the access again: it would see its own LINKED or READY bit, and the event or its
  * upcall would be lost.
  *
+ * How long. Whatever the guest does, a call makes at most twelve accesses, a service five, a clear_mask two. Where the guest keeps the
+ * rules (it makes only accesses that these functions name, and is told of each page at once) a raise or unmask makes at most ten.
+ * How soon. From then on that no call of the guest's is under way, a guest that keeps the rules and only services, while no call of the
+ * hypervisor's goes on, takes the ports that stand one by one: queue by queue, 0 first, each queue in its order, the k-th by its k-th
+ * service and within 5 k accesses. Behind the last a service answers 20.
+ *
  * BUSY is bit 28 of an event word. A raise or unmask sets it in the word of its queue's tail where its first cas was not taken and the
  * word is still LINKED, and clears it before it ends: till then the guest does not clear MASKED of that port, and clear_mask keeps to it.
  *
@@ -49,9 +55,9 @@
  * Here there is one cas, and unmask is called where the port is PENDING or BUSY or the cas was not taken: unmask waits for the lock.
  * Xen's unmask takes no lock of the queue: a guest that is written for Xen as well waits while the word is BUSY before it calls unmask.
  *
- * After EVTCHN_FIFO_LINK_ABANDONED (2) the host goes on and needs to do nothing. Where the guest keeps the rules (it makes only accesses
- * that these functions name, and is told of each page at once) it never comes. Where it comes the guest broke them: the port stays LINKED
- * and is its queue's tail, so that what is raised on this queue later does not arrive, and the queue is that guest's own loss.
+ * After EVTCHN_FIFO_LINK_ABANDONED (2) the host goes on and needs to do nothing. Where the guest keeps the rules it never comes. Where it
+ * comes the guest broke them: the port stays LINKED and is its queue's tail, so that what is raised on this queue later does not arrive,
+ * and the queue is that guest's own loss.
  */
 #ifndef EVTCHN_FIFO_H
 #define EVTCHN_FIFO_H
@@ -116,7 +122,7 @@ extern "C" {
 /*
  * An access: code is kind and place, index the port or queue, value the operand, old the word that a cas compares with.
  * An answer: code is a number below, index the port (19, 21) or the link bits (init_control's 0), value the count of accesses
- * that the call named, old is 0. Whatever words are handed back, a call names at most twelve, a service five and a clear_mask two.
+ * that the call named, old is 0.
  */
 typedef struct evtchn_fifo_next {
     uint32_t code, index, value, old;

@@ -1,9 +1,9 @@
--- Demands 1 and 3 of bytes, from the theorems over records.
+-- Demands 1 and 3 and T-10 of bytes, from the theorems over records.
 -- Assumes nothing.
-use Prim.Native.Nat.{ℕ, _*_, _≤_}
+use Prim.Native.Nat.{ℕ, zero, suc, _*_, _≤_}
 use mathlib.Core.Path.{_≡_, refl, sym, ap, subst, _∙_}
-use mathlib.Core.Bool.{not}
-use mathlib.Core.List.{List, _++_, map}
+use mathlib.Core.Bool.{true, not}
+use mathlib.Core.List.{List, [], _∷_, _++_, map}
 use mathlib.Core.Logic.{_≢_}
 use native.Mathlib.Omega.{arith}
 use lib.ListN.{length, replicate, length-append, length-replicate}
@@ -27,14 +27,24 @@ use Rattle.calls.proofs.HypervisorClaims.{names-due}
 use Rattle.calls.proofs.GuestClaims.{guest-names-due}
 use Rattle.machine.specs.Memory.{placeOf}
 use Rattle.machine.specs.Exec.{World, Stepped, execAll}
+use Rattle.machine.specs.declared.types.Side.the-variants as side
+use Rattle.machine.specs.declared.types.GuestStart.the-variants.{Service, Mask, ClearMask, Tell}
+use Rattle.machine.specs.declared.types.Step.{Step}
+use Rattle.machine.specs.declared.types.Step.the-variants as step
+use Rattle.queue.proofs.Cases.{clash}
 use Rattle.claims.specs.Reach.{Inside, MaskInside, arrayWords, callLimit, serviceLimit, clearLimit}
 use Rattle.claims.proofs.HypervisorReach.{calls-bounded}
 use Rattle.claims.proofs.GuestReach.{services-bounded, clears-bounded, masks-inside}
 use Rattle.interleaving.specs.Fresh.{freshWorld}
+use Rattle.interleaving.specs.Rules.{Told, NoGuestCall}
 use Rattle.interleaving.specs.Claim.{Claim}
+use Rattle.interleaving.specs.Lengths.{Lengths, LengthsOfCalls}
+use Rattle.interleaving.specs.Progress.{onlyServices, rounds, Progress, ServedInTurn}
 use Rattle.interleaving.specs.Demand3 as records
 use Rattle.interleaving.specs.Example.{example}
 use Rattle.interleaving.proofs.Theorem.{demand3}
+use Rattle.interleaving.proofs.Lengths.{lengths-of-calls}
+use Rattle.interleaving.proofs.Progress.{served-in-turn}
 use Rattle.interleaving.proofs.DocumentRules.{document-rules}
 use Rattle.interleaving.proofs.Example.{example-holds}
 use Rattle.evtchn_fifo.specs.Encoded.{encodedMasking, encodedAnswer}
@@ -50,12 +60,12 @@ use Rattle.evtchn_fifo.proofs.GuestMeaning.{guest-calls}
 use Rattle.evtchn_fifo.proofs.Narrow.{narrow-numbers}
 use Rattle.evtchn_fifo.proofs.BeyondBytes.{beyond-stays}
 use Rattle.exported.specs.Decoded.{decodedNext, decodedAnswer}
-use Rattle.exported.specs.Run.{worldOf, freshBytes, narrowStep}
-use Rattle.exported.specs.Demands.{Request, Starts, Replies, isReply, domainSide, guestSide, clearSide, Demand1, ResultsAreDue, Demand3, ZerosAreFresh, ExampleOfBytes}
+use Rattle.exported.specs.Run.{Bytes, worldOf, freshBytes, stepped, runBytes, narrowStep, LongEnough}
+use Rattle.exported.specs.Demands.{Request, Starts, Replies, isReply, domainSide, guestSide, clearSide, Demand1, ResultsAreDue, Demand3, LengthsOfBytes, BytesProgress, ServedBytes, ZerosAreFresh, ExampleOfBytes}
 use Rattle.exported.proofs.Decoding.{access-back}
 use Rattle.exported.proofs.ReadBack.{turn-back, due-back, guest-turn-back, guest-due-back}
 use Rattle.exported.proofs.Meanings.{actOf, guestActOf, request-means, guest-means, request-length, guest-length}
-use Rattle.exported.proofs.Runs.{runs-are-steps}
+use Rattle.exported.proofs.Runs.{runs-long, runs-are-steps}
 use Rattle.exported.proofs.Simulation.{Simulates, named-is-due, bounded-from}
 
 -- ---- demand 1
@@ -168,12 +178,58 @@ module _ {n : ℕ} (wide : Width n) where
   fresh-is : (r t g lent : List ℕ) → domainSize ≤ length r → guestSize ≤ length g → worldOf (freshBytes r t g lent) ≡ freshWorld lent (entries t)
   fresh-is r t g lent h k = rw (domain-calls n .fresh r h, domain-calls n .fresh-ledger t, guest-calls n .fresh g k)
 
+  module _ (r t g lent : List ℕ) (h : domainSize ≤ length r) (k : guestSize ≤ length g) where
+    fresh-long : LongEnough (freshBytes r t g lent)
+    fresh-long = record { domain = fresh-length r h; guest = fresh-guest-length g k }
+
+    -- what a run makes of fresh bytes is what the machine makes of a fresh world
+    run-is : (steps : List Step) → stepped (runBytes n (freshBytes r t g lent) steps) ≡ execAll n (freshWorld lent (entries t)) (map narrowStep steps)
+    run-is steps = runs-are-steps wide (freshBytes r t g lent) steps fresh-long ∙ ap (λ (w : World). execAll n w (map narrowStep steps)) (fresh-is r t g lent h k)
+
   pub demand3-bytes : Demand3 n
   unfolding records.Demand3
   demand3-bytes r t g lent steps h k enough rules =
-      let e = runs-are-steps wide (freshBytes r t g lent) steps (record { domain = fresh-length r h; guest = fresh-guest-length g k }) in
-      subst (λ (s : Stepped). Claim n (s .world) (s .events)) (sym (e ∙ ap (λ (w : World). execAll n w (map narrowStep steps)) (fresh-is r t g lent h k)))
-      (demand3 wide lent (entries t) (map narrowStep steps) enough rules)
+      subst (λ (s : Stepped). Claim n (s .world) (s .events)) (sym (run-is r t g lent h k steps)) (demand3 wide lent (entries t) (map narrowStep steps) enough rules)
+
+  -- ---- T-10
+
+  pub lengths-bytes : LengthsOfBytes n
+  unfolding LengthsOfCalls
+  lengths-bytes r t g lent steps h k enough rules =
+      subst (λ (s : Stepped). Lengths (s .events)) (sym (run-is r t g lent h k steps)) (lengths-of-calls wide lent (entries t) (map narrowStep steps) enough rules)
+
+  -- services have no numbers that C could write wider
+  narrow-services : (steps : List Step) → onlyServices steps ≡ true → map narrowStep steps ≡ steps
+  narrow-services [] e = refl
+  narrow-services (step.Hypervisor s ∷ ss) e = clash e refl
+  narrow-services (step.Guest Service ∷ ss) e = ap (λ (l : List Step). step.Guest Service ∷ l) (narrow-services ss e)
+  narrow-services (step.Guest (Mask p) ∷ ss) e = clash e refl
+  narrow-services (step.Guest (ClearMask p) ∷ ss) e = clash e refl
+  narrow-services (step.Guest (Tell words) ∷ ss) e = clash e refl
+  narrow-services (step.Perform side.Hypervisor ∷ ss) e = clash e refl
+  narrow-services (step.Perform side.Guest ∷ ss) e = ap (λ (l : List Step). step.Perform side.Guest ∷ l) (narrow-services ss e)
+  narrow-services (step.HandBack s word ∷ ss) e = clash e refl
+
+  rounds-only : (k : ℕ) → onlyServices (rounds k) ≡ true
+  rounds-only zero = refl
+  rounds-only (suc k) = rounds-only k
+
+  services-are : (b : Bytes) → LongEnough b → (steps : List Step) → onlyServices steps ≡ true → runBytes n b steps .events ≡ execAll n (worldOf b) steps .events
+  services-are b long steps only = ap (λ (s : Stepped). s .events) (runs-are-steps wide b steps long ∙ ap (execAll n (worldOf b)) (narrow-services steps only))
+
+  bytes-progress : (b : Bytes) → LongEnough b → Progress n (worldOf b) → BytesProgress n b
+  bytes-progress b long p = record {
+    lists = p .lists;
+    standing = p .standing;
+    inTurn = λ steps only. rw (services-are b long steps only) (p .inTurn steps only);
+    ends = λ k. rw (services-are b long (rounds k) (rounds-only k)) (p .ends k);
+  }
+
+  pub served-bytes : ServedBytes n
+  unfolding ServedInTurn
+  served-bytes r t g lent steps h k enough rules told idle =
+      bytes-progress (runBytes n (freshBytes r t g lent) steps .bytes) (runs-long n (freshBytes r t g lent) steps (fresh-long r t g lent h k))
+      (subst (λ w. Told w → NoGuestCall w → Progress n w) (sym (ap (λ (s : Stepped). s .world) (run-is r t g lent h k steps))) (served-in-turn wide lent (entries t) (map narrowStep steps) enough rules) told idle)
 
 pub zeros-are-fresh : ZerosAreFresh
 unfolding freshDomainBytes freshGuestBytes putDomain putCall putNext putGuest putService putClear putNumber putNumbers

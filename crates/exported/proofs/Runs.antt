@@ -232,6 +232,11 @@ module _ (n : ℕ) (b : Bytes) (long : LongEnough b) where
 abbrev followed : List Event → Stepped → Stepped
 followed es s = record { world = s .world; events = es ++ s .events }
 
+pub runs-long : (n : ℕ) (b : Bytes) (steps : List Step) → LongEnough b → LongEnough (runBytes n b steps .bytes)
+unfolding runBytes
+runs-long n b [] long = long
+runs-long n b (s ∷ ss) long = runs-long n (stepBytes n b s .bytes) ss (step-long n b long s)
+
 pub runs-are-steps : {n : ℕ} → Width n → RunsAreSteps n
 unfolding runBytes execAll
 runs-are-steps wide b [] long = refl

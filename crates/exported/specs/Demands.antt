@@ -1,6 +1,6 @@
--- Demands 1 and 3 of the bytes that C sees, from bytes made fresh; zeroed records are such. n is the number of link bits.
+-- Demands 1 and 3 and T-10 of the bytes that C sees, from bytes made fresh; zeroed records are such. n is the number of link bits.
 -- Assumes nothing.
-use Prim.Native.Nat.{ℕ, _+_, _*_, _^_, _≤_}
+use Prim.Native.Nat.{ℕ, _+_, _*_, _^_, _≤_, _<_}
 use mathlib.Core.Path.{_≡_}
 use mathlib.Core.Bool.{Bool, true, false, not}
 use mathlib.Core.List.{List, _++_, map}
@@ -16,8 +16,11 @@ use Rattle.machine.specs.declared.types.Start.{Start}
 use Rattle.machine.specs.declared.types.Step.{Step}
 use Rattle.claims.specs.Reach.{Inside, BoundedFrom, callLimit, serviceLimit, clearLimit}
 use Rattle.interleaving.specs.Fresh.{freshWorld}
-use Rattle.interleaving.specs.Rules.{KeepsRules}
+use Rattle.interleaving.specs.Rules.{Told, NoGuestCall, KeepsRules}
+use Rattle.interleaving.specs.Standing.{Standing}
 use Rattle.interleaving.specs.Claim.{Claim}
+use Rattle.interleaving.specs.Lengths.{Lengths}
+use Rattle.interleaving.specs.Progress.{onlyServices, servicesIn, InTurn, rounds}
 use Rattle.interleaving.specs.Example.{example}
 use Rattle.evtchn_fifo.specs.Encoded.{Wrote, Carried}
 use Rattle.evtchn_fifo.specs.Ledger.{entries}
@@ -108,6 +111,27 @@ Demand3 n =
     (r t g lent : List ℕ) (steps : List Step) → domainSize ≤ length r → guestSize ≤ length g → 2 ^ n ≤ length lent →
     KeepsRules n (freshWorld lent (entries t)) (map narrowStep steps) →
     Claim n (worldOf (runBytes n (freshBytes r t g lent) steps .bytes)) (runBytes n (freshBytes r t g lent) steps .events)
+
+-- ---- T-10: how long a call may take, and how soon a port is served
+
+abbrev pub LengthsOfBytes : ℕ → Type 0
+LengthsOfBytes n =
+    (r t g lent : List ℕ) (steps : List Step) → domainSize ≤ length r → guestSize ≤ length g → 2 ^ n ≤ length lent →
+    KeepsRules n (freshWorld lent (entries t)) (map narrowStep steps) → Lengths (runBytes n (freshBytes r t g lent) steps .events)
+
+-- the services are the exported functions' own
+pub record BytesProgress (n : ℕ) (b : Bytes) : Type 0 where
+  pub lists : ℕ → List ℕ
+  pub standing : (q : ℕ) → q < 16 → Standing n (worldOf b) q (lists q)
+  pub inTurn : (steps : List Step) → onlyServices steps ≡ true → InTurn (worldOf b) lists (servicesIn 0 (runBytes n b steps .events))
+  pub ends : (k : ℕ) → length (servicesIn 0 (runBytes n b (rounds k) .events)) ≡ k
+
+abbrev pub ServedBytes : ℕ → Type 0
+ServedBytes n =
+    (r t g lent : List ℕ) (steps : List Step) → domainSize ≤ length r → guestSize ≤ length g → 2 ^ n ≤ length lent →
+    KeepsRules n (freshWorld lent (entries t)) (map narrowStep steps) →
+    Told (worldOf (runBytes n (freshBytes r t g lent) steps .bytes)) → NoGuestCall (worldOf (runBytes n (freshBytes r t g lent) steps .bytes)) →
+    BytesProgress n (runBytes n (freshBytes r t g lent) steps .bytes)
 
 -- ---- records of zeros are fresh as they stand
 

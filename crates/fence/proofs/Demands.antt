@@ -1,4 +1,4 @@
--- Demands 1 and 3 for each domain by itself, from its own list of steps. n is the number of link bits.
+-- Demands 1 and 3 and T-10 for each domain by itself, from its own list of steps. n is the number of link bits.
 -- Assumes nothing.
 use Prim.Native.Nat.{ℕ}
 use mathlib.Core.Path.{_≡_, refl, sym, ap, _∙_, subst}
@@ -13,8 +13,12 @@ use Rattle.claims.specs.Reach.{Bounded, BoundedFrom, arrayWords, callLimit, ser
 use Rattle.claims.proofs.HypervisorReach.{calls-bounded}
 use Rattle.claims.proofs.GuestReach.{services-bounded, clears-bounded}
 use Rattle.interleaving.specs.Demand3.{Demand3}
+use Rattle.interleaving.specs.Lengths.{LengthsOfCalls}
+use Rattle.interleaving.specs.Progress.{ServedInTurn}
 use Rattle.interleaving.proofs.Theorem.{demand3}
-use Rattle.fence.specs.Domains.{ownList, Within, EachDemand1, EachDemand3}
+use Rattle.interleaving.proofs.Lengths.{lengths-of-calls}
+use Rattle.interleaving.proofs.Progress.{served-in-turn}
+use Rattle.fence.specs.Domains.{ownList, Within, EachDemand1, EachDemand3, EachLengths, EachServed}
 use Rattle.fence.proofs.Projection.{projects}
 
 -- ---- a list of steps as a list of each side's acts
@@ -93,3 +97,15 @@ each-demand3 {n} wide σ os d lent entries e enough rules =
 
 pub each-demand3-today : EachDemand3 linkBits
 each-demand3-today = each-demand3 linkBits-width
+
+-- ---- T-10
+
+pub each-lengths : {n : ℕ} → Width n → EachLengths n
+unfolding EachLengths LengthsOfCalls
+each-lengths {n} wide σ os d lent entries e enough rules =
+    rw (projects n .events d σ os, e) (lengths-of-calls wide lent entries (ownList n d σ os) enough rules)
+
+pub each-served : {n : ℕ} → Width n → EachServed n
+unfolding EachServed ServedInTurn
+each-served {n} wide σ os d lent entries e enough rules =
+    rw (projects n .world d σ os, e) (served-in-turn wide lent entries (ownList n d σ os) enough rules)

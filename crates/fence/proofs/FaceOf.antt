@@ -8,8 +8,6 @@ use lib.Dec.{ltb}
 use Rattle.word.specs.Entry.{bound}
 use Rattle.calls.specs.declared.types.Owner.{Owner}
 use Rattle.calls.specs.declared.types.Owner.the-variants as owner
-use Rattle.calls.specs.declared.types.Stage.{Stage}
-use Rattle.calls.specs.declared.types.Stage.the-variants as stage
 use Rattle.calls.specs.declared.types.Call.{Call}
 use Rattle.calls.specs.declared.types.Domain.{Domain}
 use Rattle.calls.specs.Records.{oneMore, isPort, inArray}
@@ -18,6 +16,7 @@ use Rattle.machine.specs.declared.types.Start.{Start}
 use Rattle.machine.specs.declared.types.Start.the-variants.{InitControl, ExpandArray, Bind, Close, SetPriority, Raise, Unmask}
 use Rattle.machine.specs.declared.types.Event.{Event}
 use Rattle.machine.specs.Exec.{World, hypervisorAnswer}
+use Rattle.interleaving.specs.Lengths.{isFirst}
 use Rattle.fence.specs.Fence.{Kind, Starts, Replies, GuestDoes}
 
 -- a bind or a close that waits for its reply; all else is quiet
@@ -31,17 +30,6 @@ pub record Face : Type 0 where
   pub bounds : List Bool
   pub underWay : UnderWay
 
--- only a call at its first stage tells: at a later one the owner is a raise or an unmask, or the record is junk
-abbrev pub isFirst : Stage → Bool
-isFirst stage.First = true
-isFirst stage.R2 = false
-isFirst stage.R3 = false
-isFirst stage.R4 = false
-isFirst stage.SetBusy = false
-isFirst stage.ClearBusy = false
-isFirst stage.R5 = false
-isFirst stage.R6 = false
-
 abbrev pub firstBy : Owner → ℕ → UnderWay
 firstBy owner.None p = quiet
 firstBy owner.Bind p = binds p
@@ -49,6 +37,7 @@ firstBy owner.Close p = closes p
 firstBy owner.Raise p = quiet
 firstBy owner.Unmask p = quiet
 
+-- only a call at its first stage tells: at a later one the owner is a raise or an unmask, or the record is junk
 abbrev pub underWayOf : Call → UnderWay
 underWayOf c = cond (isFirst (c .stage)) (firstBy (c .owner) (c .port .0)) quiet
 

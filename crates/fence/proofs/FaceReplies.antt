@@ -32,7 +32,8 @@ use Rattle.calls.proofs.Cases.{choose, by-test}
 use Rattle.machine.specs.declared.types.Event.the-variants.{HypervisorAnswer}
 use Rattle.fence.specs.System.{fallsBy}
 use Rattle.fence.specs.Fence.{isSeven}
-use Rattle.fence.proofs.FaceOf.{UnderWay, quiet, binds, closes, isFirst, firstBy, underWayOf, faceOf, faceAfter, answerOf, withUnderWay, replied, replyFalls}
+use Rattle.interleaving.specs.Lengths.{isFirst}
+use Rattle.fence.proofs.FaceOf.{UnderWay, quiet, binds, closes, firstBy, underWayOf, faceOf, faceAfter, answerOf, withUnderWay, replied, replyFalls}
 use Rattle.fence.proofs.FaceStarts.{bounds-set, free-quiet, none-falls}
 
 -- ---- what the word seen makes of a call

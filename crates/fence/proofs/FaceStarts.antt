@@ -35,7 +35,8 @@ use Rattle.machine.specs.declared.types.Event.the-variants.{Nothing, Hypervisor
 use Rattle.machine.specs.Exec.{expandOf, startOf}
 use Rattle.fence.specs.System.{closesAtStart, fallsBy}
 use Rattle.fence.specs.Fence.{refuses, weakest}
-use Rattle.fence.proofs.FaceOf.{quiet, isFirst, firstBy, underWayOf, faceOf, faceAfter, answerOf, withUnderWay, begun, startFalls}
+use Rattle.interleaving.specs.Lengths.{isFirst}
+use Rattle.fence.proofs.FaceOf.{quiet, firstBy, underWayOf, faceOf, faceAfter, answerOf, withUnderWay, begun, startFalls}
 
 -- ---- bound bits, calls under way, and what falls
 

@@ -1,4 +1,4 @@
--- Demands 1 and 3 for each domain by itself: what a system makes of a domain is what its own list of steps makes of it, and that list
+-- Demands 1 and 3 and T-10 for each domain by itself: what a system makes of a domain is what its own list of steps makes of it, and that list
 -- is its own steps with the sends that come through to it. n is the number of link bits.
 -- Assumes nothing.
 use Prim.Native.Nat.{ℕ, _^_, _≤_}
@@ -14,8 +14,10 @@ use Rattle.machine.specs.declared.types.Event.{Event}
 use Rattle.machine.specs.Exec.{World, execAll}
 use Rattle.claims.specs.Reach.{Bounded, arrayWords, callLimit, serviceLimit, clearLimit}
 use Rattle.interleaving.specs.Fresh.{freshWorld}
-use Rattle.interleaving.specs.Rules.{KeepsRules}
+use Rattle.interleaving.specs.Rules.{Told, NoGuestCall, KeepsRules}
 use Rattle.interleaving.specs.Claim.{Claim}
+use Rattle.interleaving.specs.Lengths.{Lengths}
+use Rattle.interleaving.specs.Progress.{Progress}
 use Rattle.fence.specs.System.{System, Order, Act, Answered, Works, Heard, Says, From, act, after, run, trace}
 
 -- ---- a domain's own list, and what is heard of it
@@ -61,3 +63,15 @@ unfoldable pub EachDemand3 : ℕ → Type 0
 EachDemand3 n =
     (σ : System) (os : List Order) (d : ℕ) (lent : List ℕ) (entries : ℕ) → σ .worlds d ≡ freshWorld lent entries → 2 ^ n ≤ length lent →
     KeepsRules n (freshWorld lent entries) (ownList n d σ os) → Claim n (run n σ os .worlds d) (onlyAll d (trace n σ os))
+
+-- ---- T-10 on the same terms: the sends that reach a domain are its raises
+
+unfoldable pub EachLengths : ℕ → Type 0
+EachLengths n =
+    (σ : System) (os : List Order) (d : ℕ) (lent : List ℕ) (entries : ℕ) → σ .worlds d ≡ freshWorld lent entries → 2 ^ n ≤ length lent →
+    KeepsRules n (freshWorld lent entries) (ownList n d σ os) → Lengths (onlyAll d (trace n σ os))
+
+unfoldable pub EachServed : ℕ → Type 0
+EachServed n =
+    (σ : System) (os : List Order) (d : ℕ) (lent : List ℕ) (entries : ℕ) → σ .worlds d ≡ freshWorld lent entries → 2 ^ n ≤ length lent →
+    KeepsRules n (freshWorld lent entries) (ownList n d σ os) → Told (run n σ os .worlds d) → NoGuestCall (run n σ os .worlds d) → Progress n (run n σ os .worlds d)

@@ -57,10 +57,10 @@ atClearStage w s = record {
 }
 
 -- an access that sees `seen` and leaves memory m, and the reply's move
-abbrev cleared : World → Access → ℕ → Memory → ClearMove → Advanced
+abbrev pub cleared : World → Access → ℕ → Memory → ClearMove → Advanced
 cleared w a seen m mv = guestStep w (guestReplied (clearCarriedOut (w .guest) mv) (ClearAccess (w .guest .clear) a seen) m)
 
-perform-cleared : (n : ℕ) (w : World) → isClearing (w .guest .clear .stage) ≡ true
+pub perform-cleared : (n : ℕ) (w : World) → isClearing (w .guest .clear .stage) ≡ true
     → performSide n w side.Guest ≡ cleared w (clearDue (w .guest .clear)) (performed (w .memory) (clearDue (w .guest .clear)) .seen) (performed (w .memory) (clearDue (w .guest .clear)) .memory)
     (clearStaged (w .guest .clear) (performed (w .memory) (clearDue (w .guest .clear)) .seen))
 unfolding performSide performGuest guestAccess guestDueOf guestReply

@@ -7,7 +7,7 @@ use Prim.Native.Nat.{ℕ, suc, _+_, _-_, _≤_, _<_}
 use native.Mathlib.Omega.{arith}
 use lib.Dec.{eqb, leb, lit≤}
 use lib.ListN.{length, set}
-use borrow.Author.Tests.{lt-ltb}
+use borrow.Author.Tests.{lt-ltb, ne-eqb}
 use Rattle.word.specs.declared.Port.{Port}
 use Rattle.word.specs.declared.Flag.the-variants.{Pending, Masked, Linked}
 use Rattle.word.specs.Word.{has, Width, queueAt}
@@ -49,7 +49,8 @@ use Rattle.machine.specs.declared.types.Step.{Step}
 use Rattle.machine.specs.declared.types.Step.the-variants as step
 use Rattle.interleaving.specs.Fresh.{freshWorld}
 use Rattle.interleaving.specs.Rules.{Allowed, KeepsRules}
-use Rattle.interleaving.specs.Counts.{Counted, CountsOfEvents}
+use Rattle.interleaving.specs.Lengths.{isFirst}
+use Rattle.interleaving.specs.Counts.{OneMore, Counted, CountsOfEvents}
 use Rattle.interleaving.proofs.Good.{Good, Kept}
 use Rattle.interleaving.proofs.Steps.{reply-free, perform-free, step-kept}
 use Rattle.interleaving.proofs.Theorem.{fresh-good}
@@ -60,57 +61,58 @@ use Rattle.word.specs.Entry.{priority}
 use Rattle.queue.proofs.Cases.{clash, by-cond}
 use Rattle.calls.specs.Hypervisor.{ends, replyFirstOf, endsTailed, named, replyR1, replyU1, replyBind, replyClose, replyFirst, afterR2, replyR2, replyR3, afterFirstCas, afterLaterCas, replyR4, replySetBusy, replyClearBusy, replyR5, replyR6, stagedAt, staged, answered, nextOf, moved, acceptInit, acceptExpand, acceptPort, beginBind, beginClose, beginPriority, beginLink, initControlOf, initControl, expandArrayOf, expandArray, bindStart, closeStart, setPriority, raiseStart, unmaskStart}
 
--- a reply ends the call with its count, or counts one access more
+-- a reply ends the call with its count, or counts one access more, which is not the first
 record Counts (c : Call) (mv : Move) : Type 0 where
   ended : isFree (mv .call .owner) ≡ true → (mv .count ≡ c .count) × (mv .call .count ≡ 0)
   more : isFree (mv .call .owner) ≡ false → mv .call .count ≡ oneMore (c .count)
+  later : isFree (mv .call .owner) ≡ false → isFirst (mv .call .stage) ≡ false
 
 module _ (c : Call) (busy : isFree (c .owner) ≡ false) where
   ends-counts : (e : ℕ) (a : Answer) → Counts c (ends e a (c .count))
   unfolding isFree
-  ends-counts e a = record { ended = λ d. (refl, refl); more = λ d. clash refl d }
+  ends-counts e a = record { ended = λ d. (refl, refl); more = λ d. clash refl d; later = λ d. clash refl d }
 
   tailed-counts : (e : ℕ) (a : Answer) → Counts c (endsTailed e c a)
   unfolding isFree
-  tailed-counts e a = record { ended = λ d. (refl, refl); more = λ d. clash refl d }
+  tailed-counts e a = record { ended = λ d. (refl, refl); more = λ d. clash refl d; later = λ d. clash refl d }
 
-  goes-counts : (mv : Move) → mv .call .owner ≡ c .owner → mv .call .count ≡ oneMore (c .count) → Counts c mv
-  goes-counts mv o e = record { ended = λ d. clash d (rw o busy); more = λ d. e }
+  goes-counts : (mv : Move) → mv .call .owner ≡ c .owner → mv .call .count ≡ oneMore (c .count) → isFirst (mv .call .stage) ≡ false → Counts c mv
+  goes-counts mv o e f = record { ended = λ d. clash d (rw o busy); more = λ d. e; later = λ d. f }
 
   -- the call goes on either way
-  either-counts : (b : Bool) (x y : Move) → x .call .owner ≡ c .owner → x .call .count ≡ oneMore (c .count) → y .call .owner ≡ c .owner → y .call .count ≡ oneMore (c .count) → Counts c (cond b x y)
-  either-counts b x y o e o′ e′ = by-cond (Counts c) b x y (λ d. goes-counts x o e) (λ d. goes-counts y o′ e′)
+  either-counts : (b : Bool) (x y : Move) → Counts c x → Counts c y → Counts c (cond b x y)
+  either-counts b x y h k = by-cond (Counts c) b x y (λ d. h) (λ d. k)
 
   cas-counts : (e seen : ℕ) → Counts c (replyR4 c e seen)
   unfolding replyR4 afterFirstCas afterLaterCas
   cas-counts e seen = by-cond (Counts c) (casTaken seen (c .word)) _ _ (λ d. tailed-counts e Done)
-      (λ d. by-cond (Counts c) (leb (c .tries) 1) _ _ (λ f. either-counts (not (has Linked seen)) _ _ refl refl refl refl)
-      (λ f. by-cond (Counts c) (not (has Linked seen)) _ _ (λ l. goes-counts _ refl refl) (λ l. either-counts (leb 5 (c .tries)) _ _ refl refl refl refl)))
+      (λ d. by-cond (Counts c) (leb (c .tries) 1) _ _ (λ f. either-counts (not (has Linked seen)) _ _ (goes-counts _ refl refl refl) (goes-counts _ refl refl refl))
+      (λ f. by-cond (Counts c) (not (has Linked seen)) _ _ (λ l. goes-counts _ refl refl refl) (λ l. either-counts (leb 5 (c .tries)) _ _ (goes-counts _ refl refl refl) (goes-counts _ refl refl refl))))
 
   first-counts : (o : Owner) → c .owner ≡ o → (e seen : ℕ) → Counts c (replyFirstOf o c e seen)
   unfolding replyR1 replyU1 replyBind replyClose isFree
   first-counts owner.None o e seen = clash (rw o refl) busy
   first-counts owner.Bind o e seen = by-cond (Counts c) (has Linked seen) _ _ (λ d. ends-counts e _) (λ d. ends-counts _ Done)
   first-counts owner.Close o e seen = ends-counts _ Done
-  first-counts owner.Raise o e seen = by-cond (Counts c) (has Masked seen) _ _ (λ d. ends-counts e Done) (λ d. by-cond (Counts c) (has Linked seen) _ _ (λ f. ends-counts e Done) (λ f. goes-counts _ refl refl))
-  first-counts owner.Unmask o e seen = by-cond (Counts c) (not (has Pending seen)) _ _ (λ d. ends-counts e Done) (λ d. by-cond (Counts c) (has Linked seen) _ _ (λ f. ends-counts e Done) (λ f. goes-counts _ refl refl))
+  first-counts owner.Raise o e seen = by-cond (Counts c) (has Masked seen) _ _ (λ d. ends-counts e Done) (λ d. by-cond (Counts c) (has Linked seen) _ _ (λ f. ends-counts e Done) (λ f. goes-counts _ refl refl refl))
+  first-counts owner.Unmask o e seen = by-cond (Counts c) (not (has Pending seen)) _ _ (λ d. ends-counts e Done) (λ d. by-cond (Counts c) (has Linked seen) _ _ (λ f. ends-counts e Done) (λ f. goes-counts _ refl refl refl))
 
   stage-counts : (s : Stage) (e : ℕ) (v : View) (seen : ℕ) → Counts c (stagedAt s c e v seen)
   unfolding replyFirst replyR2 afterR2 replyR3 replySetBusy replyClearBusy replyR5 replyR6
   stage-counts stage.First e v seen = first-counts (c .owner) refl e seen
   stage-counts stage.R2 e v seen = by-cond (Counts c) (has Linked seen) _ _ (λ d. ends-counts e Done)
-      (λ d. goes-counts _ (after (λ z. z .owner ≡ c .owner) refl refl) (after (λ z. z .count ≡ oneMore (c .count)) refl refl))
+      (λ d. goes-counts _ (after (λ z. z .owner ≡ c .owner) refl refl) (after (λ z. z .count ≡ oneMore (c .count)) refl refl) (after (λ z. isFirst (z .stage) ≡ false) refl refl))
     where
       t : ℕ
       t = v .tail
 
       after : (P : Call → Type 0) → P (named c stage.R5 (queueAt (priority e))) → P (named c stage.R3 (queueAt (priority e))) → P (cond (eqb t 0) (named c stage.R5 (queueAt (priority e))) (cond (eqb t (c .port .0)) (named c stage.R5 (queueAt (priority e))) (named c stage.R3 (queueAt (priority e)))))
       after P a b = by-cond P (eqb t 0) _ _ (λ d. a) (λ d. by-cond P (eqb t (c .port .0)) _ _ (λ f. a) (λ f. b))
-  stage-counts stage.R3 e v seen = either-counts (not (has Linked seen)) _ _ refl refl refl refl
+  stage-counts stage.R3 e v seen = either-counts (not (has Linked seen)) _ _ (goes-counts _ refl refl refl) (goes-counts _ refl refl refl)
   stage-counts stage.R4 e v seen = cas-counts e seen
-  stage-counts stage.SetBusy e v seen = either-counts (not (has Linked seen)) _ _ refl refl refl refl
-  stage-counts stage.ClearBusy e v seen = by-cond (Counts c) (has Linked (c .word)) _ _ (λ d. tailed-counts e _) (λ d. goes-counts _ refl refl)
-  stage-counts stage.R5 e v seen = goes-counts _ refl refl
+  stage-counts stage.SetBusy e v seen = either-counts (not (has Linked seen)) _ _ (goes-counts _ refl refl refl) (goes-counts _ refl refl refl)
+  stage-counts stage.ClearBusy e v seen = by-cond (Counts c) (has Linked (c .word)) _ _ (λ d. tailed-counts e _) (λ d. goes-counts _ refl refl refl)
+  stage-counts stage.R5 e v seen = goes-counts _ refl refl refl
   stage-counts stage.R6 e v seen = by-cond (Counts c) (isReady (c .queue .0) seen) _ _ (λ d. ends-counts e Done) (λ d. ends-counts e _)
 
 -- ---- worlds
@@ -119,6 +121,7 @@ record State (made : ℕ) (c : Call) : Type 0 where
   before : made ≡ c .count - 1
   idle : isFree (c .owner) ≡ true → c .count ≡ 0
   busy : isFree (c .owner) ≡ false → 0 < c .count
+  first : isFree (c .owner) ≡ false → isFirst (c .stage) ≡ eqb made 0
 
 -- what a step makes of it, whatever comes after
 record CountsStep (made : ℕ) (a : Advanced) : Type 0 where
@@ -172,7 +175,7 @@ module _ (n : ℕ) {made : ℕ} (w : World) (s : State made (w .domain .call)) w
   started-counts starts p e (begin.Refused a) f = refused-counts a (w .domain .given) (w .domain .pages) (w .ledger) (w .memory .words)
   started-counts starts p e (begin.Begun c) f = rw (f .call) (rw e (record {
     after = 0;
-    state = record { before = refl; idle = λ d. clash d e; busy = λ d. lit≤ tt };
+    state = record { before = refl; idle = λ d. clash d e; busy = λ d. lit≤ tt; first = λ d. refl };
     counted = λ es d. subst (λ z. Counted z es) (let a = s .before in let b = s .idle (f .free) in omega arith) d;
   }))
   started-counts starts p e (begin.Settled x) f = refused-counts Done (w .domain .given) (w .domain .pages) (set (w .ledger) (p .0) x) (w .memory .words)
@@ -187,7 +190,7 @@ module _ (n : ℕ) {made : ℕ} (w : World) (s : State made (w .domain .call)) w
   start-counts (Raise p) = started-counts owner.Raise p refl _ (link-facts n (w .domain .pages) (w .ledger) (w .domain .call .owner) p owner.Raise (acceptPort n (w .domain .call .owner) (w .domain .given) p (entryAt (w .ledger) (p .0))) (port-facts n (w .domain .pages) (w .ledger) (w .domain .call .owner) owner.Raise p (w .domain .given)))
   start-counts (Unmask p) = started-counts owner.Unmask p refl _ (link-facts n (w .domain .pages) (w .ledger) (w .domain .call .owner) p owner.Unmask (acceptPort n (w .domain .call .owner) (w .domain .given) p (entryAt (w .ledger) (p .0))) (port-facts n (w .domain .pages) (w .ledger) (w .domain .call .owner) owner.Unmask p (w .domain .given)))
 
-  -- ---- an access of the call under way, which is among the first eleven
+  -- ---- an access of the call under way, which is among the first ten
   carried-counts : (a : Access) (seen : ℕ) (m : Memory) (mv : Move) → isFree (w .domain .call .owner) ≡ false → w .domain .call .count ≤ 7 + mostTries → Counts (w .domain .call) mv → CountsStep made (carried n w a seen m mv)
   unfolding moved nextOf oneMore
   carried-counts a seen m mv b few k = go (isFree (mv .call .owner)) refl
@@ -195,8 +198,8 @@ module _ (n : ℕ) {made : ℕ} (w : World) (s : State made (w .domain .call)) w
       now : suc made ≡ w .domain .call .count
       now = let x = s .before in let y = s .busy b in omega arith
 
-      bound : suc made ≤ 7 + mostTries
-      bound = let x = now in omega arith
+      more : OneMore (isFirst (w .domain .call .stage)) made
+      more = record { start = s .first b; bound = let x = now in omega arith }
 
       exact : isFree (mv .call .owner) ≡ false → mv .call .count ≡ w .domain .call .count + 1
       exact e = k .more e ∙ rw (lt-ltb (w .domain .call .count) 0xFFFFFFFF (omega arith))
@@ -210,13 +213,13 @@ module _ (n : ℕ) {made : ℕ} (w : World) (s : State made (w .domain .call)) w
       go : (f : Bool) → isFree (mv .call .owner) ≡ f → CountsStep made (carried n w a seen m mv)
       go true e = rw (e, k .ended e .0 ∙ sym now) (record {
         after = 0;
-        state = record { before = rw (k .ended e .1) refl; idle = λ d. k .ended e .1; busy = λ d. clash e d };
-        counted = λ es c. (bound, (refl, c));
+        state = record { before = rw (k .ended e .1) refl; idle = λ d. k .ended e .1; busy = λ d. clash e d; first = λ d. clash e d };
+        counted = λ es c. (more, (refl, c));
       })
-      go false e = rw e (record { after = suc made; state = record { before = next-made e; idle = λ d. clash d e; busy = λ d. next-busy e }; counted = λ es c. (bound, c) })
+      go false e = rw e (record { after = suc made; state = record { before = next-made e; idle = λ d. clash d e; busy = λ d. next-busy e; first = λ d. k .later d ∙ sym (ne-eqb (suc made) 0 (λ z. omega arith)) }; counted = λ es c. (more, c) })
 
 -- ---- steps
--- where the hypervisor's call makes an access, it is among the first eleven
+-- where the hypervisor's call makes an access, it is among the first ten
 access-few : (n : ℕ) (w : World) (h : List Event) → isFree (w .domain .call .owner) ≡ false → w .domain .call .port .0 < length (w .ledger) → Kept n (performSide n w side.Hypervisor) h → w .domain .call .count ≤ 7 + mostTries
 access-few n w h b e k = (subst (λ a. Kept n a h) (perform-carried n w b e) k) .bounds .0 .accesses
 
@@ -249,4 +252,4 @@ steps-counts {n} wide w h (z ∷ ss) k s a =
 pub counts-of-events : {n : ℕ} → Width n → CountsOfEvents n
 unfolding CountsOfEvents isFree
 counts-of-events {n} wide lent entries steps le rules =
-    steps-counts wide (freshWorld lent entries) [] steps (fresh-good n lent entries le) (record { before = refl; idle = λ e. refl; busy = λ e. clash refl e }) rules
+    steps-counts wide (freshWorld lent entries) [] steps (fresh-good n lent entries le) (record { before = refl; idle = λ e. refl; busy = λ e. clash refl e; first = λ e. clash refl e }) rules

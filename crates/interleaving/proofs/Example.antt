@@ -45,7 +45,7 @@ use Rattle.interleaving.proofs.HistoryLaws.{taken-append, given-append}
 use Rattle.interleaving.proofs.DocumentRules.{demand3-by-document}
 
 -- ---- document 01's rules as a test
-abbrev passes : Bool → World → Step → Bool
+abbrev pub passes : Bool → World → Step → Bool
 passes due w (step.Hypervisor s) = not due
 passes due w (step.Guest Service) = not due
 passes due w (step.Guest (Mask p)) = not due
@@ -68,11 +68,11 @@ pass-allowed due w (step.HandBack side.Guest word) e =
     let f = and-both (not (isServing (w .guest .call .stage))) (not (isClearing (w .guest .clear .stage))) (d .1) in
     (not-true due (d .0), record { service = not-true (isServing (w .guest .call .stage)) (f .0); clear = not-true (isClearing (w .guest .clear .stage)) (f .1) })
 
-abbrev allPass : ℕ → Bool → World → List Step → Bool
+abbrev pub allPass : ℕ → Bool → World → List Step → Bool
 allPass n due w [] = true
 allPass n due w (s ∷ ss) = passes due w s && allPass n (tellDue due w s (exec n w s .world)) (exec n w s .world) ss
 
-pass-rules : (n : ℕ) (due : Bool) (w : World) (ss : List Step) → allPass n due w ss ≡ true → KeepsDocumentRules n due w ss
+pub pass-rules : (n : ℕ) (due : Bool) (w : World) (ss : List Step) → allPass n due w ss ≡ true → KeepsDocumentRules n due w ss
 pass-rules n due w [] e = tt
 pass-rules n due w (s ∷ ss) e =
     let d = and-both (passes due w s) (allPass n (tellDue due w s (exec n w s .world)) (exec n w s .world) ss) e in
@@ -111,7 +111,7 @@ ran w ss = record { world = execAll linkBits w ss .world; flow = flowOf (execAll
 record Part (w : World) (ss : List Step) (v : World) (f : Flow) : Type 0 where
   is : ran w ss ≡ record { world = v; flow = f; due = false; passed = true }
 
-execAll-append : (n : ℕ) (w : World) (a b : List Step) → execAll n w (a ++ b)
+pub execAll-append : (n : ℕ) (w : World) (a b : List Step) → execAll n w (a ++ b)
     ≡ record { world = execAll n (execAll n w a .world) b .world; events = execAll n w a .events ++ execAll n (execAll n w a .world) b .events }
 unfolding execAll
 execAll-append n w [] b = refl

@@ -4,6 +4,8 @@ use mathlib.Core.Path.{_≡_, refl, sym, ap, _∙_}
 use mathlib.Core.List.{List, [], _∷_, _++_, append-assoc, append-nil}
 use Prim.Native.Nat.{ℕ}
 use lib.Dec.{eqb}
+use lib.ListN.{length, drop}
+use lib.Seq.{drop-append-seam}
 use borrow.Author.Tests.{eq-eqb, ne-eqb}
 use Rattle.calls.specs.declared.types.Next.{Next}
 use Rattle.calls.specs.declared.types.Next.the-variants as next
@@ -43,6 +45,15 @@ module _ (h es : List Event) (L : ℕ → List ℕ) (o : InOrder h L) where
       (λ q. takenIn q h ≡ (givenOut q h ++ portIf (eqb r q) p) ++ giveOut L r q) r q
       (rw (eq-eqb r r refl, update-same L r (dropFirst (L r)), append-assoc (givenOut r h) (p ∷ []) (dropFirst (L r))) (o r ∙ ap (λ l. givenOut r h ++ l) e))
       (λ n. rw (ne-eqb r q (λ z. n (sym z)), update-other L r (dropFirst (L r)) q n, append-nil (givenOut q h)) (o q)))
+
+-- where nothing was taken in since, what stood before is what was given out since, and then what stands
+append-cancel : (a x y : List ℕ) → a ++ x ≡ a ++ y → x ≡ y
+append-cancel a x y e = sym (drop-append-seam a x) ∙ ap (drop (length a)) e ∙ drop-append-seam a y
+
+pub stood : (h es : List Event) (L M : ℕ → List ℕ) → InOrder h L → InOrder (h ++ es) M → ((q : ℕ) → takenIn q es ≡ []) → (q : ℕ) → L q ≡ givenOut q es ++ M q
+stood h es L M before after none q = append-cancel (givenOut q h) (L q) (givenOut q es ++ M q)
+    (sym (before q) ∙ sym (append-nil (takenIn q h)) ∙ ap (λ l. takenIn q h ++ l) (sym (none q)) ∙ sym (taken-append q h es) ∙ after q
+    ∙ ap (λ l. l ++ M q) (given-append q h es) ∙ append-assoc (givenOut q h) (givenOut q es) (M q))
 
 -- a call's answer takes nothing in and gives nothing out
 module _ (q : ℕ) where

@@ -20,7 +20,13 @@ pub mod Steps
 pub mod Theorem
 pub mod Busy
 pub mod Counts
+pub mod Lengths
+pub mod Backlog
+pub mod ServiceTurns
+pub mod Progress
 pub mod Refused
 pub mod Reach
 pub mod DocumentRules
 pub mod Example
+pub mod LengthsExample
+pub mod ProgressExample

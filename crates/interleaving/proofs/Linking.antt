@@ -1,11 +1,10 @@
 -- What a raise or unmask under way is, whichever of the two.
 -- Assumes nothing.
 use mathlib.Core.Path.{_≡_, refl}
-use mathlib.Core.Bool.{Bool, true, false}
+use mathlib.Core.Bool.{true, false}
 use Prim.Native.Nat.{ℕ}
 use Rattle.calls.specs.declared.types.Owner.{Owner}
 use Rattle.calls.specs.declared.types.Owner.the-variants as owner
-use Rattle.calls.specs.declared.types.Stage.{Stage}
 use Rattle.calls.specs.declared.types.Stage.the-variants as stage
 use Rattle.calls.specs.Records.{isFree}
 use Rattle.queue.specs.Model.{Kind, Call}
@@ -45,13 +44,3 @@ first-asks P n p q x t none asked owner.Bind h = asked atBind h
 first-asks P n p q x t none asked owner.Close h = asked atClose h
 first-asks P n p q x t none asked owner.Raise h = asked atR1 h
 first-asks P n p q x t none asked owner.Unmask h = asked atU1 h
-
-abbrev pub isFirst : Stage → Bool
-isFirst stage.First = true
-isFirst stage.R2 = false
-isFirst stage.R3 = false
-isFirst stage.R4 = false
-isFirst stage.SetBusy = false
-isFirst stage.ClearBusy = false
-isFirst stage.R5 = false
-isFirst stage.R6 = false

@@ -4,7 +4,7 @@ use mathlib.Core.Path.{_≡_, refl, sym, ap, subst, fun-ext}
 use mathlib.Core.Logic.{inl, inr}
 use mathlib.Core.Bool.{Bool, true, false}
 use mathlib.Core.List.{List, []}
-use Prim.Native.Nat.{ℕ, zero, suc, _+_, _^_, _≤_, zero-le}
+use Prim.Native.Nat.{ℕ, zero, suc, _+_, _^_, _≤_, _<_, zero-le}
 use native.Mathlib.Omega.{arith}
 use lib.Dec.{lit≤}
 use lib.ListN.{length, getD, replicate}
@@ -33,17 +33,18 @@ use Rattle.queue.proofs.Expand.{fresh-keeps}
 use Rattle.queue.proofs.Claim.{standing, linked-once, none-lost, rest-unlinked, rest-masked}
 use Rattle.queue.proofs.OneVcpu.{alone-none, alone-clear-none, alone-held}
 use Rattle.interleaving.specs.Fresh.{freshWorld}
-use Rattle.interleaving.specs.Standing.{readyWord, StandingUnique, StandsOn}
+use Rattle.interleaving.specs.Standing.{readyWord, Standing, StandingUnique, StandsOn}
 use Rattle.interleaving.specs.Held.{isLinking, hasLinked, hasTaken, HeldByHypervisor, HeldByLinker, HeldByGuest}
 use Rattle.interleaving.specs.Claim.{Rest, Claim}
 use Rattle.interleaving.specs.Demand3.{Demand3}
 use Rattle.interleaving.specs.Bounds.{BoundsOfEvents}
+use Rattle.interleaving.specs.Lengths.{isFirst}
 use Rattle.interleaving.proofs.ReadyBits.{bits-at, bits-none, bits-zero}
 use Rattle.interleaving.proofs.Decode.{decoded}
 use Rattle.interleaving.proofs.View.{viewOf, unlessNone, callBy, callOf, guestCallBy, guestCallOf, guestsOf, clearsOf, agree}
 use Rattle.interleaving.proofs.Good.{Good}
 use Rattle.interleaving.proofs.Replies.{fit-idle}
-use Rattle.interleaving.proofs.Linking.{isFirst, unless, first-asks}
+use Rattle.interleaving.proofs.Linking.{unless, first-asks}
 use Rattle.interleaving.proofs.Starts.{free-idle}
 use Rattle.interleaving.proofs.GuestStarts.{none-serving, none-clearing}
 use Rattle.interleaving.proofs.Steps.{steps-kept}
@@ -121,10 +122,13 @@ module _ {n : ℕ} {w : World} {h : List Event} (k : Good n w h) where
     ready = bits-none (readyWord w) (r .ready);
   }
 
+  pub lists-stand : (q : ℕ) → q < 16 → Standing n w q (k .lists q)
+  lists-stand q lt = rw (← (bits-at (w .guest .ready) q lt), ← (bits-at (readyWord w) q lt)) (standing (k .inv) q)
+
   pub claim : Claim n w h
   claim = record {
     lists = k .lists;
-    standing = λ q lt. rw (← (bits-at (w .guest .ready) q lt), ← (bits-at (readyWord w) q lt)) (standing (k .inv) q);
+    standing = lists-stand;
     noneLost = λ p i a b. three (none-lost (k .inv) p (i .inside) a b) (λ s. inl (stands p s)) (λ e. inr (inl (held p e))) (λ e. inr (inr (served p (alone-held (guestCallOf (w .guest .call)) p e))));
     linkedOnce = λ p i a. either (linked-once (k .inv) p (i .inside) a) (λ s. inl (stands p s)) (λ e. inr ((λ q lt. e .0 q), linked p (e .1)));
     inOrder = λ q lt. k .order q;

@@ -1,5 +1,5 @@
 -- What else holds of every event on demand 3's terms: answers 2 and 18 never come up; a count is at most 7 + `mostTries`,
--- that is eleven; R4 is tried at most `mostTries` times; R6 always finds its bit clear, so that it answers 1.
+-- that is ten; R4 is tried at most `mostTries` times; R6 always finds its bit clear, so that it answers 1.
 -- Assumes nothing.
 use Prim.Native.Nat.{ℕ, _+_, _^_, _≤_}
 use mathlib.Core.Path.{_≡_}

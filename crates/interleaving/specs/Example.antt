@@ -29,22 +29,22 @@ use Rattle.interleaving.specs.Busy.{HasSetBusy}
 -- ---- steps in short
 
 -- an access of the hypervisor's call, of the guest's service or clear_mask, with its reply
-abbrev x : Step
+abbrev pub x : Step
 x = step.Perform side.Hypervisor
 
-abbrev g : Step
+abbrev pub g : Step
 g = step.Perform side.Guest
 
-abbrev tell : ℕ → Step
+abbrev pub tell : ℕ → Step
 tell words = step.Guest (Tell words)
 
-abbrev mask : ℕ → Step
+abbrev pub mask : ℕ → Step
 mask p = step.Guest (Mask (portAt p))
 
-abbrev clearMask : ℕ → Step
+abbrev pub clearMask : ℕ → Step
 clearMask p = step.Guest (ClearMask (portAt p))
 
-abbrev bind : ℕ → List Step
+abbrev pub bind : ℕ → List Step
 bind p = step.Hypervisor (Bind (portAt p)) ∷ x ∷ []
 
 -- ---- the list, in parts

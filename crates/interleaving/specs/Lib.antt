@@ -10,4 +10,8 @@ pub mod Refused
 pub mod Example
 pub mod Reach
 pub mod Bounds
+pub mod Lengths
 pub mod Counts
+pub mod Progress
+pub mod LengthsExample
+pub mod ProgressExample

@@ -1,8 +1,8 @@
 /*
  * demo SECONDS DOMAINS [GUEST FILE]: one host with many domains, joined in pairs by cables, in threads over real atomics. Prints the log
- * of C1, runs for some seconds, prints tables, shows the fence on one thread, and ends with the claims that it checked. Exit status 0 if
- * all hold, 1 if one fails, 2 if it can't run. With GUEST (plain, masking, reopening or hostile) the log of the first domain with such a
- * guest is written to FILE.
+ * of C1, runs for some seconds, prints tables, shows a backlog served and the fence on one thread, and ends with the claims that it
+ * checked. Exit status 0 if all hold, 1 if one fails, 2 if it can't run. With GUEST (plain, masking, reopening or hostile) the log of the
+ * first domain with such a guest is written to FILE.
  */
 #include <errno.h>
 #include <inttypes.h>
@@ -12,6 +12,7 @@
 #include <unistd.h>
 
 #include "../world.h"
+#include "backlog.h"
 #include "cables.h"
 #include "fence.h"
 #include "recording.h"
@@ -221,7 +222,7 @@ int main(int words, char **word)
     static recording r;
     settings s = read_arguments(words, word);
     double begun, elapsed;
-    bool as_documented = show_c1(), fenced, holds;
+    bool as_documented = show_c1(), in_turn, fenced, holds;
     begin_domains(&h, &s, &r);
     printf("%u domains, %u threads of the hypervisor's, a thread for each guest, one more for each hostile guest:\n\n", s.count,
            HYPERVISOR_THREADS);
@@ -232,11 +233,13 @@ int main(int words, char **word)
     end_all(&c, &h);
     end_recording(&s, &r);
     report_tables(&h, elapsed);
+    in_turn = backlog_show();
     fenced = fence_show();
     printf("\n");
     show_claim(as_documented, "all", "the log of C1 is document 01's");
+    show_claim(in_turn, "rules kept", "the k-th service takes the k-th port of the backlog, within 5 k accesses");
     show_claim(fenced, "others", "nothing that is heard of them tells what one domain's words hold");
-    holds = report_claims(&h) && as_documented && fenced;
+    holds = report_claims(&h) && as_documented && in_turn && fenced;
     printf("\n%s\n", holds ? "Every claim holds." : "A claim FAILS.");
     return holds ? 0 : 1;
 }

@@ -2,7 +2,7 @@
 
 use super::coverage::Coverage;
 use super::pair::Pair;
-use super::{arbitrary, honest, hostile, refusals, rewritten, stages};
+use super::{arbitrary, honest, hostile, latency, refusals, rewritten, stages};
 use crate::crash;
 use crate::model::Model;
 use crate::random::Random;
@@ -23,7 +23,7 @@ pub struct Campaign {
 }
 
 /// Every kind.
-pub const CAMPAIGNS: [Campaign; 6] = [
+pub const CAMPAIGNS: [Campaign; 7] = [
     Campaign {
         name: "honest",
         history: honest::history,
@@ -53,6 +53,11 @@ pub const CAMPAIGNS: [Campaign; 6] = [
         name: "stages",
         history: stages::history,
         histories: 200_000,
+    },
+    Campaign {
+        name: "latency",
+        history: latency::history,
+        histories: 10_000,
     },
 ];
 

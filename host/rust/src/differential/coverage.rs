@@ -31,6 +31,35 @@ const LONGEST: [&str; 6] = [
     "from fresh records: a clear_mask's answer after two",
 ];
 
+/// Of a guest that keeps the rules: how long a raise gets, and what its services alone go through.
+#[derive(Clone, Copy, Debug, PartialEq, Eq)]
+#[allow(missing_docs)]
+pub enum Kept {
+    Seven,
+    Eight,
+    Nine,
+    Ten,
+    NothingStands,
+    SeveralQueues,
+    SeveralPorts,
+    LeftOver,
+    Standing,
+    Taken,
+}
+
+const KEPT: [&str; 10] = [
+    "rules kept: a raise of seven accesses",
+    "rules kept: a raise of eight",
+    "rules kept: a raise of nine",
+    "rules kept: a raise of ten",
+    "services alone: nothing stands",
+    "services alone: on two queues or more",
+    "services alone: four ports or more",
+    "services alone: a local bit below READY's lowest",
+    "services alone: while a raise stands where it is",
+    "services alone: 21 among their answers",
+];
+
 /// Slices that are longer than needed.
 const LONGER: [&str; 6] = [
     "longer slice: a domain's record, in a step",
@@ -51,6 +80,7 @@ pub struct Coverage {
     saturated: [u64; SATURATED.len()],
     longer: [u64; LONGER.len()],
     longest: [u64; LONGEST.len()],
+    kept: [u64; KEPT.len()],
     /// For each row, how often a refusal was given while the next one's line held too.
     pairs: [[u64; 8]; ROWS.len()],
     ended: Ended,
@@ -67,6 +97,7 @@ impl Default for Coverage {
             saturated: [0; SATURATED.len()],
             longer: [0; LONGER.len()],
             longest: [0; LONGEST.len()],
+            kept: [0; KEPT.len()],
             pairs: [[0; 8]; ROWS.len()],
             ended: Ended {
                 owner: Owner::Bind,
@@ -117,6 +148,22 @@ impl Coverage {
             _ => return,
         };
         self.longest[met] += 1;
+    }
+
+    /// Counts a raise of a guest that keeps the rules by how many accesses it made.
+    pub fn note_kept_length(&mut self, count: u32) {
+        match count {
+            7 => self.meet_kept(Kept::Seven),
+            8 => self.meet_kept(Kept::Eight),
+            9 => self.meet_kept(Kept::Nine),
+            10 => self.meet_kept(Kept::Ten),
+            _ => {}
+        }
+    }
+
+    /// Counts what was met with a guest that keeps the rules.
+    pub fn meet_kept(&mut self, kept: Kept) {
+        self.kept[kept as usize] += 1;
     }
 
     /// Counts a step's slices.
@@ -205,6 +252,7 @@ impl Coverage {
         add_all(&mut self.saturated, &other.saturated);
         add_all(&mut self.longer, &other.longer);
         add_all(&mut self.longest, &other.longest);
+        add_all(&mut self.kept, &other.kept);
         add_all(self.pairs.as_flattened_mut(), other.pairs.as_flattened());
     }
 
@@ -232,6 +280,8 @@ impl Coverage {
         counts.extend(longer.zip(self.longer));
         let longest = LONGEST.iter().map(|name| name.to_string());
         counts.extend(longest.zip(self.longest));
+        let kept = KEPT.iter().map(|name| name.to_string());
+        counts.extend(kept.zip(self.kept));
         counts
     }
 }

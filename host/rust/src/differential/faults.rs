@@ -7,7 +7,7 @@ use super::pair::Pair;
 use crate::model::{Faults, Model};
 
 /// Histories of each kind that are tried on a fault.
-const TRIED: [u64; CAMPAIGNS.len()] = [60, 100, 100, 5_000, 100, 1_000];
+const TRIED: [u64; CAMPAIGNS.len()] = [60, 100, 100, 5_000, 100, 1_000, 60];
 
 /// A fault with the first difference of each kind of history.
 pub struct Tried {

@@ -4,8 +4,8 @@
 //! - `pair`, `lent`, `compare`: one world of the model beside the library's bytes
 //! - `rows`, `branches`, `coverage`: what a run met; `linking`, `clearing`: the branches of BUSY
 //!   and of clear_mask
-//! - `honest`, `hostile`, `refusals`, `arbitrary`, `rewritten`, `stages`: one history each, from a
-//!   seed; `inputs`: what `refusals` tries
+//! - `honest`, `hostile`, `refusals`, `arbitrary`, `rewritten`, `stages`, `latency`: one history
+//!   each, from a seed; `inputs`: what `refusals` tries
 //! - `campaign`: many histories; `faults`: the test of the tests
 //! - `large`: slices of more than 2^32 bytes
 //! - `cables`: several domains and their cables, with histories and faults of their own
@@ -35,6 +35,7 @@ pub mod honest;
 pub mod hostile;
 pub mod inputs;
 pub mod large;
+pub mod latency;
 pub mod lent;
 mod linking;
 pub mod pair;

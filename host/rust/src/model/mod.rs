@@ -5,7 +5,8 @@
 //!   `decisions`, `seeded`
 //! - `machine`: both sides' steps over lent memory; `log`: lines of the access log, both ways;
 //!   `replay`: a log played back; `cables`: forty domains and the cables between them
-//! - `claims`: demand 3's four parts, where BUSY stands, and the account of PENDING
+//! - `claims`: demand 3's four parts, where BUSY stands, the account of PENDING, how long calls and
+//!   how soon services are
 //! - `histories`, `arbitrary`: random rule-keeping steps, random records
 
 pub mod access;

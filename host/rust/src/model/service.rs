@@ -91,7 +91,7 @@ impl Model {
     /// G0: READY's low sixteen bits join the local ones; the lowest set one is served.
     fn g0(&self, guest: &mut Guest, seen: u32) -> Outcome {
         guest.local = local_bits(guest.local | seen);
-        let Some(queue) = lowest(guest.local) else {
+        let Some(queue) = self.served_queue(guest.local, seen) else {
             return End(Answer::Idle);
         };
         match queue_value(&guest.heads, queue) {
@@ -136,9 +136,4 @@ impl Model {
         guest.words = self.told_words(guest.words, words);
         Next::at_once(Answer::Done)
     }
-}
-
-/// The queue of the lowest set bit.
-fn lowest(bits: u32) -> Option<Queue> {
-    (0..32).find(|bit| bits >> bit & 1 == 1).map(Queue)
 }

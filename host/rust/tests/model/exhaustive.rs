@@ -1,8 +1,9 @@
 //! Every interleaving of a small world: two ports, two queues, one page. The four parts are
-//! judged after every step, part 3 from one step to the next, and where BUSY stands.
+//! judged after every step, part 3 from one step to the next, and where BUSY stands; wherever no
+//! call of the guest's is under way, the services that follow; and the longest call.
 
-use evtchn_fifo_host::model::claims::{all_parts, misplaced_busy, Flows, Queues};
-use evtchn_fifo_host::model::{Event, Faults, Model, Side, Step, World};
+use evtchn_fifo_host::model::claims::{all_parts, misplaced_busy, served_in_turn, Flows, Queues};
+use evtchn_fifo_host::model::{Event, Faults, Model, Next, Side, Step, World};
 use std::collections::HashSet;
 use std::hash::{Hash, Hasher};
 
@@ -74,11 +75,10 @@ impl Hasher for TwoHashes {
     }
 }
 
-/// Two hashes of a world without its counts.
+/// Two hashes of a world without its counts, but for that of the hypervisor's call.
 fn key(world: &World) -> [u64; 2] {
-    let mut domain = world.domain;
+    let domain = world.domain;
     let mut guest = world.guest;
-    domain.call.iter_mut().for_each(|call| call.count = 0);
     guest.call.iter_mut().for_each(|call| call.count = 0);
     let clearing = guest.clearing.iter_mut();
     clearing.for_each(|clearing| clearing.count = 0);
@@ -95,13 +95,33 @@ fn copy(world: &World, after: &mut World) {
     (after.domain, after.guest) = (world.domain, world.guest);
 }
 
+/// What a visit met.
+#[derive(Debug, Default)]
+pub struct Visited {
+    pub worlds: usize,
+    /// Most accesses of a call of the hypervisor's.
+    longest: u32,
+    /// Worlds from which services were followed.
+    served: usize,
+}
+
 /// One step into `after`, with the four parts after it; whether the step changes anything.
-fn judged(world: &World, before: &Queues, step: Step, after: &mut World) -> Result<bool, String> {
+fn judged(
+    world: &World,
+    before: &Queues,
+    step: Step,
+    after: &mut World,
+    visited: &mut Visited,
+) -> Result<bool, String> {
     copy(world, after);
-    let events = after.step(step).events;
+    let stepped = after.step(step);
+    let events = stepped.events;
     let accessed = |event: &Event| matches!(event, Event::Accessed(_));
     if !events.iter().any(accessed) && after == world {
         return Ok(false);
+    }
+    if let (Step::Access(Side::Hypervisor), Next::Answer(_, count)) = (step, stepped.next) {
+        visited.longest = visited.longest.max(count);
     }
     let mut flows = Flows::standing(before);
     events.iter().for_each(|event| flows.note(event));
@@ -112,19 +132,31 @@ fn judged(world: &World, before: &Queues, step: Step, after: &mut World) -> Resu
     }
 }
 
-/// Visits worlds until none is new or `limit` are met; gives their number.
-pub fn visit(model: Model, limit: usize) -> Result<usize, String> {
+/// Where no call of the guest's is under way, its services take the ports in turn.
+fn follow(world: &World, after: &mut World, visited: &mut Visited) -> Result<(), String> {
+    if world.guest.is_under_way() {
+        return Ok(());
+    }
+    visited.served += 1;
+    copy(world, after);
+    served_in_turn(after)
+}
+
+/// Visits worlds until none is new or `limit` are met.
+pub fn visit(model: Model, limit: usize) -> Result<Visited, String> {
     let steps = steps();
     let first = start(model);
     let mut after = first.clone();
     let mut met = HashSet::from([key(&first)]);
     let mut waiting = vec![first];
+    let mut visited = Visited::default();
     while !waiting.is_empty() && met.len() < limit {
         let mut found = Vec::new();
         for world in &waiting {
+            follow(world, &mut after, &mut visited)?;
             let before = Queues::of(world).map_err(|error| format!("{error:?}"))?;
             for step in &steps {
-                let changes = judged(world, &before, *step, &mut after)?;
+                let changes = judged(world, &before, *step, &mut after, &mut visited)?;
                 if changes && met.insert(key(&after)) {
                     found.push(after.clone());
                 }
@@ -132,15 +164,29 @@ pub fn visit(model: Model, limit: usize) -> Result<usize, String> {
         }
         waiting = found;
     }
-    Ok(met.len())
+    visited.worlds = met.len();
+    Ok(visited)
+}
+
+/// Ten accesses of a raise are met, and none takes more.
+#[test]
+fn small_world_keeps_the_claims() {
+    let limit = 6_000_000;
+    let visited = visit(Model::default(), limit);
+    println!("{visited:?}");
+    let visited = visited.unwrap_or_else(|text| panic!("{text}"));
+    assert!(visited.worlds < limit);
+    assert_eq!(visited.longest, 10);
+    assert!(visited.served > 100_000);
 }
 
 #[test]
-fn small_world_keeps_the_four_parts() {
-    let limit = 6_000_000;
-    let worlds = visit(Model::default(), limit);
-    println!("{worlds:?} worlds");
-    assert!(worlds.is_ok_and(|met| met < limit));
+fn small_world_needs_the_lowest_queue() {
+    for fault in [Faults::HighestQueue, Faults::NewBitsFirst] {
+        let broken = visit(Model::new(fault), 1_000_000);
+        println!("{fault:?}: {broken:?}");
+        assert!(broken.is_err_and(|text| text.contains("takes Some")));
+    }
 }
 
 #[test]

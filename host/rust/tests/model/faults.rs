@@ -35,6 +35,7 @@ fn reading_cases() -> Vec<(&'static str, Case)> {
         crate::readings_records::CASES,
         crate::busy::CASES,
         crate::clear_mask::CASES,
+        crate::latency::CASES,
     ]
     .concat()
 }

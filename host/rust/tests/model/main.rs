@@ -1,5 +1,5 @@
-//! Tests of the model: cases, readings, edges, BUSY, clear_mask, random histories, seeded faults,
-//! logs played back, cables.
+//! Tests of the model: cases, readings, edges, BUSY, clear_mask, how long and how soon, random
+//! histories, seeded faults, logs played back, cables.
 
 #[macro_use]
 mod support;
@@ -17,6 +17,7 @@ mod exhaustive;
 mod faults;
 mod histories;
 mod hostile;
+mod latency;
 mod log_lines;
 mod readings_counts;
 mod readings_guest;

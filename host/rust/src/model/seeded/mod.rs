@@ -41,6 +41,10 @@ pub enum Faults {
     NotBoundFirst,
     /// G2 clears the local bit when the LINK seen is not 0.
     G2LocalBit,
+    /// A service takes the highest set queue.
+    HighestQueue,
+    /// A service takes the lowest queue of READY's before those of the local bits.
+    NewBitsFirst,
     /// The count starts at 0.
     FirstCount,
     /// The cas keeps the old LINK.
@@ -135,7 +139,7 @@ pub enum Faults {
 
 impl Faults {
     /// Every fault of a rule with the words of the list it stands in.
-    pub const ALL: [(Faults, &'static str); 50] = [
+    pub const ALL: [(Faults, &'static str); 52] = [
         (Faults::R1Operand, "R1 operand 80000000 -> 40000000"),
         (Faults::U1Operand, "U1 operand BFFFFFFF -> 7FFFFFFF"),
         (Faults::G2Operand, "G2 operand DFFE0000 -> DFFF0000"),
@@ -150,6 +154,8 @@ impl Faults {
         (Faults::CloseClearsLinked, "close clears bit 9"),
         (Faults::NotBoundFirst, "14 and 4 exchanged"),
         (Faults::G2LocalBit, "G2 clears the bit when LINK != 0"),
+        (Faults::HighestQueue, "the highest ready queue"),
+        (Faults::NewBitsFirst, "READY's queues before local ones"),
         (Faults::FirstCount, "count 1 -> 0 at start"),
         (Faults::CasLink, "cas operand keeps the old LINK"),
         (Faults::R5Value, "R5 value p -> T[q]"),

@@ -75,6 +75,16 @@ impl Model {
         self.choose(Faults::G2LocalBit, link.0 != 0, link.0 == 0)
     }
 
+    /// The queue that a service takes: the lowest set bit's. `seen` are READY's bits, which `local`
+    /// has too.
+    pub(in crate::model) fn served_queue(&self, local: u32, seen: u32) -> Option<Queue> {
+        let new = decisions::local_bits(seen);
+        let highest = (0..32).rev().find(|bit| local >> bit & 1 == 1).map(Queue);
+        let new_first = lowest(new).or(lowest(local));
+        let lowest = self.choose(Faults::HighestQueue, highest, lowest(local));
+        self.choose(Faults::NewBitsFirst, new_first, lowest)
+    }
+
     /// The count of a call that has named its first access.
     pub(in crate::model) fn first_count(&self) -> u32 {
         self.choose(Faults::FirstCount, 0, 1)
@@ -102,4 +112,9 @@ impl Model {
         let none = tail.0 == 0 || (self.has(Faults::OutsideIsNone) && !domain.in_array(tail));
         (!none).then_some(tail)
     }
+}
+
+/// The queue of the lowest set bit.
+fn lowest(bits: u32) -> Option<Queue> {
+    (0..32).find(|bit| bits >> bit & 1 == 1).map(Queue)
 }
