@@ -80,14 +80,15 @@ module _ (c : Call) (busy : isFree (c .owner) ≡ false) where
   goes-counts mv o e f = record { ended = λ d. clash d (rw o busy); more = λ d. e; later = λ d. f }
 
   -- the call goes on either way
-  either-counts : (b : Bool) (x y : Move) → Counts c x → Counts c y → Counts c (cond b x y)
-  either-counts b x y h k = by-cond (Counts c) b x y (λ d. h) (λ d. k)
+  either-counts : (b : Bool) (x y : Move) → x .call .owner ≡ c .owner → x .call .count ≡ oneMore (c .count) → isFirst (x .call .stage) ≡ false
+      → y .call .owner ≡ c .owner → y .call .count ≡ oneMore (c .count) → isFirst (y .call .stage) ≡ false → Counts c (cond b x y)
+  either-counts b x y o e f o′ e′ f′ = by-cond (Counts c) b x y (λ d. goes-counts x o e f) (λ d. goes-counts y o′ e′ f′)
 
   cas-counts : (e seen : ℕ) → Counts c (replyR4 c e seen)
   unfolding replyR4 afterFirstCas afterLaterCas
   cas-counts e seen = by-cond (Counts c) (casTaken seen (c .word)) _ _ (λ d. tailed-counts e Done)
-      (λ d. by-cond (Counts c) (leb (c .tries) 1) _ _ (λ f. either-counts (not (has Linked seen)) _ _ (goes-counts _ refl refl refl) (goes-counts _ refl refl refl))
-      (λ f. by-cond (Counts c) (not (has Linked seen)) _ _ (λ l. goes-counts _ refl refl refl) (λ l. either-counts (leb 5 (c .tries)) _ _ (goes-counts _ refl refl refl) (goes-counts _ refl refl refl))))
+      (λ d. by-cond (Counts c) (leb (c .tries) 1) _ _ (λ f. either-counts (not (has Linked seen)) _ _ refl refl refl refl refl refl)
+      (λ f. by-cond (Counts c) (not (has Linked seen)) _ _ (λ l. goes-counts _ refl refl refl) (λ l. either-counts (leb 5 (c .tries)) _ _ refl refl refl refl refl refl)))
 
   first-counts : (o : Owner) → c .owner ≡ o → (e seen : ℕ) → Counts c (replyFirstOf o c e seen)
   unfolding replyR1 replyU1 replyBind replyClose isFree
@@ -108,9 +109,9 @@ module _ (c : Call) (busy : isFree (c .owner) ≡ false) where
 
       after : (P : Call → Type 0) → P (named c stage.R5 (queueAt (priority e))) → P (named c stage.R3 (queueAt (priority e))) → P (cond (eqb t 0) (named c stage.R5 (queueAt (priority e))) (cond (eqb t (c .port .0)) (named c stage.R5 (queueAt (priority e))) (named c stage.R3 (queueAt (priority e)))))
       after P a b = by-cond P (eqb t 0) _ _ (λ d. a) (λ d. by-cond P (eqb t (c .port .0)) _ _ (λ f. a) (λ f. b))
-  stage-counts stage.R3 e v seen = either-counts (not (has Linked seen)) _ _ (goes-counts _ refl refl refl) (goes-counts _ refl refl refl)
+  stage-counts stage.R3 e v seen = either-counts (not (has Linked seen)) _ _ refl refl refl refl refl refl
   stage-counts stage.R4 e v seen = cas-counts e seen
-  stage-counts stage.SetBusy e v seen = either-counts (not (has Linked seen)) _ _ (goes-counts _ refl refl refl) (goes-counts _ refl refl refl)
+  stage-counts stage.SetBusy e v seen = either-counts (not (has Linked seen)) _ _ refl refl refl refl refl refl
   stage-counts stage.ClearBusy e v seen = by-cond (Counts c) (has Linked (c .word)) _ _ (λ d. tailed-counts e _) (λ d. goes-counts _ refl refl refl)
   stage-counts stage.R5 e v seen = goes-counts _ refl refl refl
   stage-counts stage.R6 e v seen = by-cond (Counts c) (isReady (c .queue .0) seen) _ _ (λ d. ends-counts e Done) (λ d. ends-counts e _)

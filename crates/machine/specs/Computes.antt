@@ -1,5 +1,5 @@
 -- The one handle by which a proof about concrete steps computes: `unfolding runs` opens every definition that a step uses, with those
--- of the word rules. The table of cases, the longest calls, and the example of demand 3 name it.
+-- of the word rules. The table of cases, the longest calls, and the examples of demand 3 and of T-10 name it.
 -- Assumes nothing.
 use Prim.Native.Nat.{ℕ}
 use Rattle.word.specs.Computes.{computes}
