@@ -40,11 +40,12 @@
  * hand back the same word. Never perform the access again: it would see its own LINKED or READY bit, and the event or its
  * upcall would be lost.
  *
- * How long. Whatever the guest does, a call makes at most twelve accesses, a service five, a clear_mask two. Where the guest keeps the
- * rules (it makes only accesses that these functions name, and is told of each page at once) a raise or unmask makes at most ten.
- * How soon. From then on that no call of the guest's is under way, a guest that keeps the rules and only services, while no call of the
- * hypervisor's goes on, takes the ports that stand one by one: queue by queue, 0 first, each queue in its order, the k-th by its k-th
- * service and within 5 k accesses. Behind the last a service answers 20.
+ * How long. With records that were made fresh a call makes at most twelve accesses, a service five and a clear_mask two, whatever the guest
+ * does. Where it keeps the rules (it makes only accesses that these functions name, and is told of each page at once) a raise or unmask
+ * makes at most ten.
+ * How soon. Take a guest that keeps the rules, has no call under way, and from now on only services, while no call of the hypervisor's goes
+ * on. It takes the ports that stand one by one: queue by queue, 0 first, each queue in its order, the k-th by its k-th service and within
+ * 5 k accesses. Behind the last a service answers 20.
  *
  * BUSY is bit 28 of an event word. A raise or unmask sets it in the word of its queue's tail where its first cas was not taken and the
  * word is still LINKED, and clears it before it ends: till then the guest does not clear MASKED of that port, and clear_mask keeps to it.
