@@ -14,7 +14,7 @@ typedef struct world {
     evtchn_fifo_guest guest;
     uint16_t ledger[WORLD_ENTRIES];
     uint32_t page[EVTCHN_FIFO_PAGE_WORDS];
-    uint32_t control[EVTCHN_FIFO_CONTROL_WORDS];
+    evtchn_fifo_control control;
     uint32_t *pages[1];
     evtchn_fifo_shared shared;
     int quiet;    /* no lines are written */
@@ -35,7 +35,7 @@ static inline void world_fresh(world *w)
     evtchn_fifo_guest_fresh(&w->guest);
     evtchn_fifo_ledger_fresh(w->ledger, WORLD_ENTRIES);
     w->pages[0] = w->page;
-    w->shared.control = w->control;
+    w->shared.control = &w->control;
     w->shared.pages = w->pages;
     w->shared.words = EVTCHN_FIFO_PAGE_WORDS;
 }

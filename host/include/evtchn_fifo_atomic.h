@@ -13,9 +13,9 @@ extern "C" {
 
 /* The memory that hypervisor and guest share, as one of them has it mapped. */
 typedef struct evtchn_fifo_shared {
-    uint32_t *control;      /* EVTCHN_FIFO_CONTROL_WORDS words, or NULL */
-    uint32_t *const *pages; /* the event array's pages, of EVTCHN_FIFO_PAGE_WORDS words each */
-    uint32_t words;         /* how many event words are mapped */
+    evtchn_fifo_control *control; /* or NULL */
+    uint32_t *const *pages;       /* the event array's pages, of EVTCHN_FIFO_PAGE_WORDS words each */
+    uint32_t words;               /* how many event words are mapped */
 } evtchn_fifo_shared;
 
 /* ---- one access ---- */
@@ -87,7 +87,7 @@ EVTCHN_FIFO_INLINE int evtchn_fifo_perform_event(const evtchn_fifo_shared *share
 
 EVTCHN_FIFO_INLINE int evtchn_fifo_perform_ready(const evtchn_fifo_shared *shared, evtchn_fifo_halves next, unsigned kind, uint32_t *seen)
 {
-    return shared->control != NULL && evtchn_fifo_perform_on(shared->control, kind, next.operands, seen);
+    return shared->control != NULL && evtchn_fifo_perform_on(&shared->control->ready, kind, next.operands, seen);
 }
 
 EVTCHN_FIFO_INLINE int evtchn_fifo_perform_head(const evtchn_fifo_shared *shared, evtchn_fifo_halves next, unsigned kind, uint32_t *seen)
@@ -95,7 +95,7 @@ EVTCHN_FIFO_INLINE int evtchn_fifo_perform_head(const evtchn_fifo_shared *shared
     uint32_t queue = (uint32_t)(next.access >> 32);
     if (queue >= EVTCHN_FIFO_QUEUES || shared->control == NULL)
         return 0;
-    return evtchn_fifo_perform_on(shared->control + 2 + queue, kind, next.operands, seen);
+    return evtchn_fifo_perform_on(&shared->control->head[queue], kind, next.operands, seen);
 }
 
 /*
@@ -162,11 +162,11 @@ EVTCHN_FIFO_INLINE int evtchn_fifo_perform(const evtchn_fifo_shared *shared, evt
 
 /*
  * Performs what a call's start named, hands back the word seen, and so on to the answer. The ledger is the one lent at the start, with
- * no fewer entries, so that no reply is refused with 14. An access that is not mapped comes back unperformed (evtchn_fifo_is_access
+ * no fewer entries, so that no reply is refused with NO_ENTRY. An access that is not mapped comes back unperformed (evtchn_fifo_is_access
  * tells), its call still under way: another run goes on with it. A mask takes no reply, and so no run.
  */
-EVTCHN_FIFO_INLINE evtchn_fifo_next evtchn_fifo_domain_run(evtchn_fifo_domain *domain, uint16_t *ledger, size_t entries,
-                                                           const evtchn_fifo_shared *shared, evtchn_fifo_next next)
+EVTCHN_FIFO_USED EVTCHN_FIFO_INLINE evtchn_fifo_next evtchn_fifo_domain_run(evtchn_fifo_domain *domain, uint16_t *ledger, size_t entries,
+                                                                            const evtchn_fifo_shared *shared, evtchn_fifo_next next)
 {
     evtchn_fifo_halves halves = evtchn_fifo_apart(next);
     uint32_t seen;
@@ -176,13 +176,88 @@ EVTCHN_FIFO_INLINE evtchn_fifo_next evtchn_fifo_domain_run(evtchn_fifo_domain *d
 }
 
 /* The same for a service or a clear_mask. A clear_mask that began during a service comes to its answer before the service is run on. */
-EVTCHN_FIFO_INLINE evtchn_fifo_next evtchn_fifo_guest_run(evtchn_fifo_guest *guest, const evtchn_fifo_shared *shared, evtchn_fifo_next next)
+EVTCHN_FIFO_USED EVTCHN_FIFO_INLINE evtchn_fifo_next evtchn_fifo_guest_run(evtchn_fifo_guest *guest, const evtchn_fifo_shared *shared,
+                                                                           evtchn_fifo_next next)
 {
     evtchn_fifo_halves halves = evtchn_fifo_apart(next);
     uint32_t seen;
     EVTCHN_FIFO_TURNS(evtchn_fifo_perform_for_guest(shared, halves, &seen),
                       halves = evtchn_fifo_apart(evtchn_fifo_guest_service_reply(guest, seen)));
     return evtchn_fifo_together(halves);
+}
+
+/* ---- whole calls ---- */
+
+/* What a whole call came to. What a host does not look at costs nothing: these functions are inlined. */
+typedef struct evtchn_fifo_outcome {
+    uint32_t code;        /* the answer's number; NOT_MAPPED: there is none yet, since the access in due is not mapped */
+    uint32_t index;       /* the answer's: the port of HANDED_OVER and TAKEN, init_control's link bits */
+    uint32_t count;       /* the accesses that the call made; 0 of NOT_MAPPED */
+    uint32_t under_way;   /* what the record is left with: IDLE, or what evtchn_fifo_domain_under_way or evtchn_fifo_guest_under_way says */
+    evtchn_fifo_next due; /* of NOT_MAPPED, the access, which was not made; else zeros */
+} evtchn_fifo_outcome;
+
+EVTCHN_FIFO_INLINE evtchn_fifo_outcome evtchn_fifo_outcome_of(evtchn_fifo_next next, uint32_t under_way)
+{
+    static const evtchn_fifo_next none = {0, 0, 0, 0};
+    evtchn_fifo_outcome outcome;
+    int answered = !evtchn_fifo_is_access(next);
+    outcome.code = answered ? next.code : (uint32_t)EVTCHN_FIFO_NOT_MAPPED;
+    outcome.index = answered ? next.index : 0;
+    outcome.count = answered ? next.value : 0;
+    outcome.under_way = under_way;
+    outcome.due = answered ? none : next;
+    return outcome;
+}
+
+/*
+ * A whole call of the hypervisor's side, from what its start gave. The domain's lock is held from before the start till this returns:
+ *
+ *     raised = evtchn_fifo_run(&domain, ledger, entries, &shared, evtchn_fifo_domain_raise(&domain, ledger, entries, port));
+ *
+ * An answer leaves the record IDLE, but for CALL_UNDER_WAY, where under_way is the other call. After NOT_MAPPED the call stands, and every
+ * other gets CALL_UNDER_WAY: map the access, and go on from evtchn_fifo_domain_due(&domain) in place of the start.
+ */
+EVTCHN_FIFO_USED EVTCHN_FIFO_INLINE evtchn_fifo_outcome evtchn_fifo_run(evtchn_fifo_domain *domain, uint16_t *ledger, size_t entries,
+                                                                        const evtchn_fifo_shared *shared, evtchn_fifo_next start)
+{
+    evtchn_fifo_next next = evtchn_fifo_domain_run(domain, ledger, entries, shared, start);
+    return evtchn_fifo_outcome_of(next, evtchn_fifo_domain_under_way(domain));
+}
+
+/*
+ * A whole service, which hands over at most one port. At an upcall a guest serves until this gives NOTHING_READY. CALL_UNDER_WAY: under_way
+ * says what stands, a service, a clear_mask or both; this makes no access then.
+ */
+EVTCHN_FIFO_USED EVTCHN_FIFO_INLINE evtchn_fifo_outcome evtchn_fifo_serve(evtchn_fifo_guest *guest, const evtchn_fifo_shared *shared)
+{
+    evtchn_fifo_next next = evtchn_fifo_guest_run(guest, shared, evtchn_fifo_guest_service(guest));
+    return evtchn_fifo_outcome_of(next, evtchn_fifo_guest_under_way(guest));
+}
+
+/* A whole clear_mask: DONE, or CALL_UNMASK, after which the hypervisor's unmask is called. Also while a service is under way. */
+EVTCHN_FIFO_USED EVTCHN_FIFO_INLINE evtchn_fifo_outcome evtchn_fifo_run_clear_mask(evtchn_fifo_guest *guest,
+                                                                                   const evtchn_fifo_shared *shared, uint64_t port)
+{
+    evtchn_fifo_next next = evtchn_fifo_guest_run(guest, shared, evtchn_fifo_guest_clear_mask(guest, port));
+    return evtchn_fifo_outcome_of(next, evtchn_fifo_guest_under_way(guest));
+}
+
+/* After NOT_MAPPED of either, when the access is mapped: goes on with the clear_mask under way, else with the service. */
+EVTCHN_FIFO_USED EVTCHN_FIFO_INLINE evtchn_fifo_outcome evtchn_fifo_serve_on(evtchn_fifo_guest *guest, const evtchn_fifo_shared *shared)
+{
+    evtchn_fifo_next next = evtchn_fifo_guest_run(guest, shared, evtchn_fifo_guest_service_due(guest));
+    return evtchn_fifo_outcome_of(next, evtchn_fifo_guest_under_way(guest));
+}
+
+/* A whole mask, by the number of words that the guest was told of. It has no record, and leaves nothing under way. */
+EVTCHN_FIFO_USED EVTCHN_FIFO_INLINE evtchn_fifo_outcome evtchn_fifo_run_mask(const evtchn_fifo_shared *shared, uint64_t port,
+                                                                             uint64_t words)
+{
+    static const evtchn_fifo_next done = {EVTCHN_FIFO_DONE, 0, 1, 0};
+    evtchn_fifo_next next = evtchn_fifo_mask(port, words);
+    uint32_t seen;
+    return evtchn_fifo_outcome_of(evtchn_fifo_perform(shared, next, &seen) ? done : next, EVTCHN_FIFO_IDLE);
 }
 
 #ifdef __cplusplus

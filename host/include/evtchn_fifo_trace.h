@@ -14,7 +14,7 @@
  *     X  call    raise         5  -         -             of the others port, argument (a priority, expand_array's frame) and a dash
  *     G  call    clear_mask    5  -         -             (the guest's are service, mask and clear_mask)
  *     X  or      w5            -  80000000  00000000  an access: side, kind, place, old word, operand, word seen
- *     X  answer  1             -  -         -         an answer: side, answer, number, port (of 19 and 21), two dashes
+ *     X  answer  1             -  -         -         an answer: side, answer, number, port (of HANDED_OVER and TAKEN), dashes
  *
  * Nothing is allocated, and only evtchn_fifo_trace_to_file, which a freestanding compilation leaves out, needs a C library. A trace may be
  * NULL: the calls are made and nothing is written.
@@ -30,7 +30,7 @@
  * What has no line:
  *   - a tell. The guest makes it as soon as an expand_array has added a page, before any other line of its own, with the array's number
  *     of words; a mask is given the same number.
- *   - a reply that is refused with 14 (EVTCHN_FIFO_NO_ENTRY). The access has its line once, with the reply that is accepted; all of this
+ *   - a reply that is refused with EVTCHN_FIFO_NO_ENTRY. The access has its line once, with the reply that is accepted; all of this
  *     is one moment.
  *   - what a guest writes by itself. The replay differs at the first access that sees it.
  *
@@ -139,10 +139,17 @@ static inline size_t evtchn_fifo_line_set_priority(char *line, uint64_t port, ui
 static inline size_t evtchn_fifo_line_bind(char *line, uint64_t port) { return evtchn_fifo_line_of_port(line, "X\tcall\tbind\t", port); }
 static inline size_t evtchn_fifo_line_close(char *line, uint64_t port) { return evtchn_fifo_line_of_port(line, "X\tcall\tclose\t", port); }
 static inline size_t evtchn_fifo_line_raise(char *line, uint64_t port) { return evtchn_fifo_line_of_port(line, "X\tcall\traise\t", port); }
-static inline size_t evtchn_fifo_line_unmask(char *line, uint64_t port) { return evtchn_fifo_line_of_port(line, "X\tcall\tunmask\t", port); }
+static inline size_t evtchn_fifo_line_unmask(char *line, uint64_t port)
+{
+    return evtchn_fifo_line_of_port(line, "X\tcall\tunmask\t", port);
+}
+
 static inline size_t evtchn_fifo_line_service(char *line) { return evtchn_fifo_line_text(line, 0, "G\tcall\tservice\t-\t-\t-\n"); }
 static inline size_t evtchn_fifo_line_mask(char *line, uint64_t port) { return evtchn_fifo_line_of_port(line, "G\tcall\tmask\t", port); }
-static inline size_t evtchn_fifo_line_clear_mask(char *line, uint64_t port) { return evtchn_fifo_line_of_port(line, "G\tcall\tclear_mask\t", port); }
+static inline size_t evtchn_fifo_line_clear_mask(char *line, uint64_t port)
+{
+    return evtchn_fifo_line_of_port(line, "G\tcall\tclear_mask\t", port);
+}
 
 /* An access of a side (X or G) with the word seen, which a store has none of; 0 and no line where next is no access. */
 static inline size_t evtchn_fifo_line_access(char *line, char side, evtchn_fifo_next next, uint32_t seen)
@@ -227,7 +234,8 @@ static inline void evtchn_fifo_trace_started(evtchn_fifo_trace *trace, char side
 }
 
 /* An access's line, and the answer's where its reply came to one. */
-static inline void evtchn_fifo_trace_made(evtchn_fifo_trace *trace, char side, evtchn_fifo_next access, uint32_t seen, evtchn_fifo_next next)
+static inline void evtchn_fifo_trace_made(evtchn_fifo_trace *trace, char side, evtchn_fifo_next access, uint32_t seen,
+                                          evtchn_fifo_next next)
 {
     evtchn_fifo_trace_write(trace, evtchn_fifo_line_access(trace->line, side, access, seen));
     evtchn_fifo_trace_write(trace, evtchn_fifo_line_answer(trace->line, side, next));
@@ -235,19 +243,23 @@ static inline void evtchn_fifo_trace_made(evtchn_fifo_trace *trace, char side, e
 
 /* ---- starts: those of evtchn_fifo.h, each a moment with its lines ---- */
 
-static inline evtchn_fifo_next evtchn_fifo_trace_init_control(evtchn_fifo_trace *trace, evtchn_fifo_domain *domain, uint64_t vcpu, uint64_t frame, uint64_t frames, uint64_t offset)
+EVTCHN_FIFO_USED static inline evtchn_fifo_next evtchn_fifo_trace_init_control(evtchn_fifo_trace *trace, evtchn_fifo_domain *domain,
+                                                                               uint64_t vcpu, uint64_t frame, uint64_t frames,
+                                                                               uint64_t offset)
 {
     evtchn_fifo_next next;
     evtchn_fifo_trace_lock(trace);
     next = evtchn_fifo_domain_init_control(domain, vcpu, frame, frames, offset);
     if (trace != NULL)
-        evtchn_fifo_trace_started(trace, EVTCHN_FIFO_TRACE_HYPERVISOR, evtchn_fifo_line_init_control(trace->line, vcpu, frame, offset), next);
+        evtchn_fifo_trace_started(trace, EVTCHN_FIFO_TRACE_HYPERVISOR, evtchn_fifo_line_init_control(trace->line, vcpu, frame, offset),
+                                  next);
     evtchn_fifo_trace_unlock(trace);
     return next;
 }
 
 /* The tell is the guest's to make, if this answers 0. */
-static inline evtchn_fifo_next evtchn_fifo_trace_expand_array(evtchn_fifo_trace *trace, evtchn_fifo_domain *domain, uint64_t frame, uint64_t frames)
+EVTCHN_FIFO_USED static inline evtchn_fifo_next evtchn_fifo_trace_expand_array(evtchn_fifo_trace *trace, evtchn_fifo_domain *domain,
+                                                                               uint64_t frame, uint64_t frames)
 {
     evtchn_fifo_next next;
     evtchn_fifo_trace_lock(trace);
@@ -258,7 +270,8 @@ static inline evtchn_fifo_next evtchn_fifo_trace_expand_array(evtchn_fifo_trace 
     return next;
 }
 
-static inline evtchn_fifo_next evtchn_fifo_trace_bind(evtchn_fifo_trace *trace, evtchn_fifo_domain *domain, uint16_t *ledger, size_t entries, uint64_t port)
+EVTCHN_FIFO_USED static inline evtchn_fifo_next evtchn_fifo_trace_bind(evtchn_fifo_trace *trace, evtchn_fifo_domain *domain,
+                                                                       uint16_t *ledger, size_t entries, uint64_t port)
 {
     evtchn_fifo_next next;
     evtchn_fifo_trace_lock(trace);
@@ -269,7 +282,8 @@ static inline evtchn_fifo_next evtchn_fifo_trace_bind(evtchn_fifo_trace *trace, 
     return next;
 }
 
-static inline evtchn_fifo_next evtchn_fifo_trace_close(evtchn_fifo_trace *trace, evtchn_fifo_domain *domain, uint16_t *ledger, size_t entries, uint64_t port)
+EVTCHN_FIFO_USED static inline evtchn_fifo_next evtchn_fifo_trace_close(evtchn_fifo_trace *trace, evtchn_fifo_domain *domain,
+                                                                        uint16_t *ledger, size_t entries, uint64_t port)
 {
     evtchn_fifo_next next;
     evtchn_fifo_trace_lock(trace);
@@ -280,7 +294,9 @@ static inline evtchn_fifo_next evtchn_fifo_trace_close(evtchn_fifo_trace *trace,
     return next;
 }
 
-static inline evtchn_fifo_next evtchn_fifo_trace_set_priority(evtchn_fifo_trace *trace, evtchn_fifo_domain *domain, uint16_t *ledger, size_t entries, uint64_t port, uint64_t priority)
+EVTCHN_FIFO_USED static inline evtchn_fifo_next evtchn_fifo_trace_set_priority(evtchn_fifo_trace *trace, evtchn_fifo_domain *domain,
+                                                                               uint16_t *ledger, size_t entries, uint64_t port,
+                                                                               uint64_t priority)
 {
     evtchn_fifo_next next;
     evtchn_fifo_trace_lock(trace);
@@ -291,7 +307,8 @@ static inline evtchn_fifo_next evtchn_fifo_trace_set_priority(evtchn_fifo_trace 
     return next;
 }
 
-static inline evtchn_fifo_next evtchn_fifo_trace_raise(evtchn_fifo_trace *trace, evtchn_fifo_domain *domain, uint16_t *ledger, size_t entries, uint64_t port)
+EVTCHN_FIFO_USED static inline evtchn_fifo_next evtchn_fifo_trace_raise(evtchn_fifo_trace *trace, evtchn_fifo_domain *domain,
+                                                                        uint16_t *ledger, size_t entries, uint64_t port)
 {
     evtchn_fifo_next next;
     evtchn_fifo_trace_lock(trace);
@@ -302,7 +319,8 @@ static inline evtchn_fifo_next evtchn_fifo_trace_raise(evtchn_fifo_trace *trace,
     return next;
 }
 
-static inline evtchn_fifo_next evtchn_fifo_trace_unmask(evtchn_fifo_trace *trace, evtchn_fifo_domain *domain, uint16_t *ledger, size_t entries, uint64_t port)
+EVTCHN_FIFO_USED static inline evtchn_fifo_next evtchn_fifo_trace_unmask(evtchn_fifo_trace *trace, evtchn_fifo_domain *domain,
+                                                                         uint16_t *ledger, size_t entries, uint64_t port)
 {
     evtchn_fifo_next next;
     evtchn_fifo_trace_lock(trace);
@@ -313,7 +331,7 @@ static inline evtchn_fifo_next evtchn_fifo_trace_unmask(evtchn_fifo_trace *trace
     return next;
 }
 
-static inline evtchn_fifo_next evtchn_fifo_trace_service(evtchn_fifo_trace *trace, evtchn_fifo_guest *guest)
+EVTCHN_FIFO_USED static inline evtchn_fifo_next evtchn_fifo_trace_service(evtchn_fifo_trace *trace, evtchn_fifo_guest *guest)
 {
     evtchn_fifo_next next;
     evtchn_fifo_trace_lock(trace);
@@ -325,7 +343,8 @@ static inline evtchn_fifo_next evtchn_fifo_trace_service(evtchn_fifo_trace *trac
 }
 
 /* Its accesses are the guest's, as a service's are: evtchn_fifo_trace_guest_run brings it to its answer. */
-static inline evtchn_fifo_next evtchn_fifo_trace_clear_mask(evtchn_fifo_trace *trace, evtchn_fifo_guest *guest, uint64_t port)
+EVTCHN_FIFO_USED static inline evtchn_fifo_next evtchn_fifo_trace_clear_mask(evtchn_fifo_trace *trace, evtchn_fifo_guest *guest,
+                                                                             uint64_t port)
 {
     evtchn_fifo_next next;
     evtchn_fifo_trace_lock(trace);
@@ -339,7 +358,8 @@ static inline evtchn_fifo_next evtchn_fifo_trace_clear_mask(evtchn_fifo_trace *t
 /* ---- a mask, whole ---- */
 
 /* The line of a mask that is refused, or of one whose access was made, with that access's. */
-static inline void evtchn_fifo_trace_masked(evtchn_fifo_trace *trace, uint64_t port, evtchn_fifo_next named, uint32_t seen, evtchn_fifo_next answer)
+static inline void evtchn_fifo_trace_masked(evtchn_fifo_trace *trace, uint64_t port, evtchn_fifo_next named, uint32_t seen,
+                                            evtchn_fifo_next answer)
 {
     evtchn_fifo_trace_write(trace, evtchn_fifo_line_mask(trace->line, port));
     evtchn_fifo_trace_made(trace, EVTCHN_FIFO_TRACE_GUEST, named, seen, answer);
@@ -349,7 +369,8 @@ static inline void evtchn_fifo_trace_masked(evtchn_fifo_trace *trace, uint64_t p
  * A mask with its access, at one moment: its refusal, or 0 with the count 1. An access that is not mapped comes back unperformed, as if
  * the mask had not been.
  */
-static inline evtchn_fifo_next evtchn_fifo_trace_mask(evtchn_fifo_trace *trace, const evtchn_fifo_shared *shared, uint64_t port, uint64_t words)
+EVTCHN_FIFO_USED static inline evtchn_fifo_next evtchn_fifo_trace_mask(evtchn_fifo_trace *trace, const evtchn_fifo_shared *shared,
+                                                                       uint64_t port, uint64_t words)
 {
     static const evtchn_fifo_next done = {EVTCHN_FIFO_DONE, 0, 1, 0};
     evtchn_fifo_next named = evtchn_fifo_mask(port, words), answer = named;
@@ -365,8 +386,10 @@ static inline evtchn_fifo_next evtchn_fifo_trace_mask(evtchn_fifo_trace *trace, 
 
 /* ---- replies: for a host that performs accesses by itself, and takes the trace lock around access and reply ---- */
 
-/* The reply to an access that was made, and their lines; no line where it is refused with 14. */
-static inline evtchn_fifo_next evtchn_fifo_trace_reply(evtchn_fifo_trace *trace, evtchn_fifo_domain *domain, uint16_t *ledger, size_t entries, evtchn_fifo_next access, uint32_t seen)
+/* The reply to an access that was made, and their lines; no line where it is refused with NO_ENTRY. */
+EVTCHN_FIFO_USED static inline evtchn_fifo_next evtchn_fifo_trace_reply(evtchn_fifo_trace *trace, evtchn_fifo_domain *domain,
+                                                                        uint16_t *ledger, size_t entries, evtchn_fifo_next access,
+                                                                        uint32_t seen)
 {
     evtchn_fifo_next next = evtchn_fifo_domain_reply(domain, ledger, entries, seen);
     if (trace != NULL && next.code != EVTCHN_FIFO_NO_ENTRY)
@@ -375,7 +398,8 @@ static inline evtchn_fifo_next evtchn_fifo_trace_reply(evtchn_fifo_trace *trace,
 }
 
 /* The same for a service or a clear_mask. */
-static inline evtchn_fifo_next evtchn_fifo_trace_service_reply(evtchn_fifo_trace *trace, evtchn_fifo_guest *guest, evtchn_fifo_next access, uint32_t seen)
+EVTCHN_FIFO_USED static inline evtchn_fifo_next evtchn_fifo_trace_service_reply(evtchn_fifo_trace *trace, evtchn_fifo_guest *guest,
+                                                                                evtchn_fifo_next access, uint32_t seen)
 {
     evtchn_fifo_next next = evtchn_fifo_guest_service_reply(guest, seen);
     if (trace != NULL)
@@ -388,7 +412,7 @@ static inline evtchn_fifo_next evtchn_fifo_trace_service_reply(evtchn_fifo_trace
 /*
  * Performs the access next, hands back the word seen, and writes the lines, at one moment; next becomes what the reply came to. 0, and
  * nothing is done, where next is no access or is not mapped. The ledger has no fewer entries than at the call's start, so that no reply is
- * refused with 14.
+ * refused with NO_ENTRY.
  */
 static inline int evtchn_fifo_trace_domain_step(evtchn_fifo_trace *trace, evtchn_fifo_domain *domain, uint16_t *ledger, size_t entries,
                                                 const evtchn_fifo_shared *shared, evtchn_fifo_next *next, uint32_t *seen)
@@ -416,8 +440,9 @@ static inline int evtchn_fifo_trace_guest_step(evtchn_fifo_trace *trace, evtchn_
 }
 
 /* evtchn_fifo_domain_run, with its lines: from what a call's start named to the answer, or to an access that is not mapped. */
-static inline evtchn_fifo_next evtchn_fifo_trace_domain_run(evtchn_fifo_trace *trace, evtchn_fifo_domain *domain, uint16_t *ledger, size_t entries,
-                                                            const evtchn_fifo_shared *shared, evtchn_fifo_next next)
+EVTCHN_FIFO_USED static inline evtchn_fifo_next evtchn_fifo_trace_domain_run(evtchn_fifo_trace *trace, evtchn_fifo_domain *domain,
+                                                                             uint16_t *ledger, size_t entries,
+                                                                             const evtchn_fifo_shared *shared, evtchn_fifo_next next)
 {
     uint32_t seen;
     while (evtchn_fifo_is_access(next) && evtchn_fifo_trace_domain_step(trace, domain, ledger, entries, shared, &next, &seen))
@@ -426,7 +451,8 @@ static inline evtchn_fifo_next evtchn_fifo_trace_domain_run(evtchn_fifo_trace *t
 }
 
 /* evtchn_fifo_guest_run, with its lines. */
-static inline evtchn_fifo_next evtchn_fifo_trace_guest_run(evtchn_fifo_trace *trace, evtchn_fifo_guest *guest, const evtchn_fifo_shared *shared, evtchn_fifo_next next)
+EVTCHN_FIFO_USED static inline evtchn_fifo_next evtchn_fifo_trace_guest_run(evtchn_fifo_trace *trace, evtchn_fifo_guest *guest,
+                                                                            const evtchn_fifo_shared *shared, evtchn_fifo_next next)
 {
     uint32_t seen;
     while (evtchn_fifo_is_access(next) && evtchn_fifo_trace_guest_step(trace, guest, shared, &next, &seen))

@@ -9,8 +9,8 @@ use crate::table;
 use evtchn_fifo::domain_record;
 use evtchn_fifo::encoded;
 use evtchn_fifo::encoded::PackedNext;
-use evtchn_fifo::hypervisor::evtchn_fifo_close;
-use evtchn_fifo::hypervisor::evtchn_fifo_reply;
+use evtchn_fifo::hypervisor::evtchn_fifo_bytes_close;
+use evtchn_fifo::hypervisor::evtchn_fifo_bytes_reply;
 use evtchn_fifo::numbers;
 
 // The port's cable is cut where its close answered 0.
@@ -28,7 +28,7 @@ fn cut_fallen(table: &mut [u8], number: u64, port: u32, code: u64)
 }
 
 #[no_mangle]
-pub extern "C" fn evtchn_cables_close(
+pub extern "C" fn evtchn_cables_bytes_close(
     table: &mut [u8],
     domain: &mut [u8],
     ledger: &mut [u8],
@@ -41,7 +41,7 @@ pub extern "C" fn evtchn_cables_close(
     if short {
         return encoded::too_short();
     }
-    let next = evtchn_fifo_close(domain, ledger, port);
+    let next = evtchn_fifo_bytes_close(domain, ledger, port);
     let port_number = numbers::narrowed(port);
     cut_fallen(table, number, port_number, next.first % 0x1_0000_0000);
     next
@@ -49,7 +49,7 @@ pub extern "C" fn evtchn_cables_close(
 
 // Only a close's reply looks at the table: any other costs one test more than without cables.
 #[no_mangle]
-pub extern "C" fn evtchn_cables_reply(
+pub extern "C" fn evtchn_cables_bytes_reply(
     table: &mut [u8],
     domain: &mut [u8],
     ledger: &mut [u8],
@@ -63,7 +63,7 @@ pub extern "C" fn evtchn_cables_reply(
         return encoded::too_short();
     }
     let closing = domain_record::closing_in(domain);
-    let next = evtchn_fifo_reply(domain, ledger, seen);
+    let next = evtchn_fifo_bytes_reply(domain, ledger, seen);
     let close = closing != 0;
     if close {
         cut_fallen(table, number, closing, next.first % 0x1_0000_0000);

@@ -33,7 +33,7 @@ fn goes_on(guest: &mut [u8], call: ClearCall, access: Access) -> PackedNext
 
 // The guest clears MASKED of a port by herself: 15, 3, 6; 35 where she has to call unmask.
 #[no_mangle]
-pub extern "C" fn evtchn_fifo_clear_mask(guest: &mut [u8], port: u64) -> PackedNext
+pub extern "C" fn evtchn_fifo_bytes_clear_mask(guest: &mut [u8], port: u64) -> PackedNext
     ensures { λ r. ⌜ wrote (unpacked r) (now (guest .exit)) ≡ clearMaskBytes linkBits (now (guest .entry)) port ⌝ }
 {
     let short = guest.len() < layout::GUEST_SIZE;
@@ -79,7 +79,7 @@ fn clear_reply(guest: &mut [u8], seen: u32) -> PackedNext
 
 // The reply to the access that was named last, with the word seen: the clear_mask's while one is under way, else the service's.
 #[no_mangle]
-pub extern "C" fn evtchn_fifo_service_reply(guest: &mut [u8], seen: u32) -> PackedNext
+pub extern "C" fn evtchn_fifo_bytes_service_reply(guest: &mut [u8], seen: u32) -> PackedNext
     ensures { λ r. ⌜ wrote (unpacked r) (now (guest .exit)) ≡ guestReplyBytes linkBits (now (guest .entry)) seen ⌝ }
 {
     let long = layout::GUEST_SIZE <= guest.len();
@@ -95,7 +95,7 @@ pub extern "C" fn evtchn_fifo_service_reply(guest: &mut [u8], seen: u32) -> Pack
 
 // The access that the clear_mask under way waits for, else the service; 16 where neither is.
 #[no_mangle]
-pub extern "C" fn evtchn_fifo_service_due(guest: &[u8]) -> PackedNext
+pub extern "C" fn evtchn_fifo_bytes_service_due(guest: &[u8]) -> PackedNext
     ensures { λ r. ⌜ unpacked r ≡ guestDueBytes linkBits (now (guest .entry)) ⌝ }
 {
     let short = guest.len() < layout::GUEST_SIZE;

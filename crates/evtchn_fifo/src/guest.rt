@@ -39,7 +39,7 @@ pub fn service_next_at(call: GuestCall, answer: Answer, count: u32) -> PackedNex
 }
 
 #[no_mangle]
-pub extern "C" fn evtchn_fifo_fresh_guest(guest: &mut [u8]) -> u32
+pub extern "C" fn evtchn_fifo_bytes_fresh_guest(guest: &mut [u8]) -> u32
     ensures { λ r. ⌜ freshened r (now (guest .exit)) ≡ freshGuestBytes (now (guest .entry)) ⌝ }
 {
     let short = guest.len() < layout::GUEST_SIZE;
@@ -52,7 +52,7 @@ pub extern "C" fn evtchn_fifo_fresh_guest(guest: &mut [u8]) -> u32
 }
 
 #[no_mangle]
-pub extern "C" fn evtchn_fifo_service(guest: &mut [u8]) -> PackedNext
+pub extern "C" fn evtchn_fifo_bytes_service(guest: &mut [u8]) -> PackedNext
     ensures { λ r. ⌜ wrote (unpacked r) (now (guest .exit)) ≡ serviceBytes linkBits (now (guest .entry)) ⌝ }
 {
     let short = guest.len() < layout::GUEST_SIZE;
@@ -244,7 +244,7 @@ pub extern "C" fn evtchn_fifo_mask(port: u64, words: u64) -> PackedNext
 }
 
 #[no_mangle]
-pub extern "C" fn evtchn_fifo_tell(guest: &mut [u8], words: u64) -> PackedNext
+pub extern "C" fn evtchn_fifo_bytes_tell(guest: &mut [u8], words: u64) -> PackedNext
     ensures { λ r. ⌜ wrote (unpacked r) (now (guest .exit)) ≡ tellBytes (now (guest .entry)) words ⌝ }
 {
     let short = guest.len() < layout::GUEST_SIZE;

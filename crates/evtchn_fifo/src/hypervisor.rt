@@ -51,7 +51,7 @@ fn next_at(domain: &[u8], call: Call, answer: Answer, count: u32) -> PackedNext
 }
 
 #[no_mangle]
-pub extern "C" fn evtchn_fifo_fresh_domain(domain: &mut [u8]) -> u32
+pub extern "C" fn evtchn_fifo_bytes_fresh_domain(domain: &mut [u8]) -> u32
     ensures { λ r. ⌜ freshened r (now (domain .exit)) ≡ freshDomainBytes (now (domain .entry)) ⌝ }
 {
     let short = domain.len() < layout::DOMAIN_SIZE;
@@ -64,7 +64,7 @@ pub extern "C" fn evtchn_fifo_fresh_domain(domain: &mut [u8]) -> u32
 }
 
 #[no_mangle]
-pub extern "C" fn evtchn_fifo_init_control(
+pub extern "C" fn evtchn_fifo_bytes_init_control(
     domain: &mut [u8],
     vcpu: u64,
     frame: u64,
@@ -92,7 +92,11 @@ pub extern "C" fn evtchn_fifo_init_control(
 }
 
 #[no_mangle]
-pub extern "C" fn evtchn_fifo_expand_array(domain: &mut [u8], frame: u64, frames: u64) -> PackedNext
+pub extern "C" fn evtchn_fifo_bytes_expand_array(
+    domain: &mut [u8],
+    frame: u64,
+    frames: u64,
+) -> PackedNext
     ensures { λ r. ⌜ wrote (unpacked r) (now (domain .exit)) ≡ expandBytes linkBits (now (domain .entry)) frame frames ⌝ }
 {
     let short = domain.len() < layout::DOMAIN_SIZE;
@@ -165,7 +169,11 @@ fn inside(domain: &[u8], port: Port) -> bool
 }
 
 #[no_mangle]
-pub extern "C" fn evtchn_fifo_bind(domain: &mut [u8], ledger: &mut [u8], port: u64) -> PackedNext
+pub extern "C" fn evtchn_fifo_bytes_bind(
+    domain: &mut [u8],
+    ledger: &mut [u8],
+    port: u64,
+) -> PackedNext
     ensures { λ r. ⌜ carried (unpacked r) (now (domain .exit)) (now (ledger .exit)) ≡ bindBytes linkBits (now (domain .entry)) (now (ledger .entry)) port ⌝ }
 {
     let short = domain.len() < layout::DOMAIN_SIZE;
@@ -191,7 +199,11 @@ pub extern "C" fn evtchn_fifo_bind(domain: &mut [u8], ledger: &mut [u8], port: u
 }
 
 #[no_mangle]
-pub extern "C" fn evtchn_fifo_close(domain: &mut [u8], ledger: &mut [u8], port: u64) -> PackedNext
+pub extern "C" fn evtchn_fifo_bytes_close(
+    domain: &mut [u8],
+    ledger: &mut [u8],
+    port: u64,
+) -> PackedNext
     ensures { λ r. ⌜ carried (unpacked r) (now (domain .exit)) (now (ledger .exit)) ≡ closeBytes linkBits (now (domain .entry)) (now (ledger .entry)) port ⌝ }
 {
     let short = domain.len() < layout::DOMAIN_SIZE;
@@ -217,7 +229,7 @@ pub extern "C" fn evtchn_fifo_close(domain: &mut [u8], ledger: &mut [u8], port: 
 }
 
 #[no_mangle]
-pub extern "C" fn evtchn_fifo_set_priority(
+pub extern "C" fn evtchn_fifo_bytes_set_priority(
     domain: &mut [u8],
     ledger: &mut [u8],
     port: u64,
@@ -271,14 +283,22 @@ fn link_call(domain: &mut [u8], ledger: &mut [u8], port: u64, owner: Owner) -> P
 }
 
 #[no_mangle]
-pub extern "C" fn evtchn_fifo_raise(domain: &mut [u8], ledger: &mut [u8], port: u64) -> PackedNext
+pub extern "C" fn evtchn_fifo_bytes_raise(
+    domain: &mut [u8],
+    ledger: &mut [u8],
+    port: u64,
+) -> PackedNext
     ensures { λ r. ⌜ carried (unpacked r) (now (domain .exit)) (now (ledger .exit)) ≡ raiseBytes linkBits (now (domain .entry)) (now (ledger .entry)) port ⌝ }
 {
     link_call(domain, ledger, port, Owner::Raise)
 }
 
 #[no_mangle]
-pub extern "C" fn evtchn_fifo_unmask(domain: &mut [u8], ledger: &mut [u8], port: u64) -> PackedNext
+pub extern "C" fn evtchn_fifo_bytes_unmask(
+    domain: &mut [u8],
+    ledger: &mut [u8],
+    port: u64,
+) -> PackedNext
     ensures { λ r. ⌜ carried (unpacked r) (now (domain .exit)) (now (ledger .exit)) ≡ unmaskBytes linkBits (now (domain .entry)) (now (ledger .entry)) port ⌝ }
 {
     link_call(domain, ledger, port, Owner::Unmask)
@@ -287,7 +307,11 @@ pub extern "C" fn evtchn_fifo_unmask(domain: &mut [u8], ledger: &mut [u8], port:
 // The reply to the access that was named last, with the word seen. Here and in the guest's reply each refusal stands behind what
 // its test lets through: the compiler lays code out in that order, so that a call which goes on takes no jump.
 #[no_mangle]
-pub extern "C" fn evtchn_fifo_reply(domain: &mut [u8], ledger: &mut [u8], seen: u32) -> PackedNext
+pub extern "C" fn evtchn_fifo_bytes_reply(
+    domain: &mut [u8],
+    ledger: &mut [u8],
+    seen: u32,
+) -> PackedNext
     ensures { λ r. ⌜ carried (unpacked r) (now (domain .exit)) (now (ledger .exit)) ≡ replyBytes linkBits (now (domain .entry)) (now (ledger .entry)) seen ⌝ }
 {
     let long = layout::DOMAIN_SIZE <= domain.len();
@@ -308,7 +332,7 @@ pub extern "C" fn evtchn_fifo_reply(domain: &mut [u8], ledger: &mut [u8], seen: 
 
 // The access that the call under way waits for; 16 where none is.
 #[no_mangle]
-pub extern "C" fn evtchn_fifo_due(domain: &[u8]) -> PackedNext
+pub extern "C" fn evtchn_fifo_bytes_due(domain: &[u8]) -> PackedNext
     ensures { λ r. ⌜ unpacked r ≡ dueBytes linkBits (now (domain .entry)) ⌝ }
 {
     let short = domain.len() < layout::DOMAIN_SIZE;

@@ -50,7 +50,7 @@ pub fn put_entry(ledger: &mut [u8], port: Port, entry: u16)
 
 // Every entry fresh, whatever the bytes held. The answer is 0.
 #[no_mangle]
-pub extern "C" fn evtchn_fifo_fresh_ledger(ledger: &mut [u8]) -> u32
+pub extern "C" fn evtchn_fifo_bytes_fresh_ledger(ledger: &mut [u8]) -> u32
     ensures { λ r. ⌜ freshened r (now (ledger .exit)) ≡ freshLedgerBytes (now (ledger .entry)) ⌝ }
 {
     let fresh = word::entry::fresh_entry();

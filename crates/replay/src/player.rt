@@ -19,9 +19,9 @@ ghost use Rattle.replay.specs.Player.{feed, fed, reports};
 ghost use Rattle.replay.specs.State.{worldIn, feedAt};
 use crate::player::due::next_line;
 use crate::player::feed::feed_on;
-use evtchn_fifo::guest::evtchn_fifo_fresh_guest;
-use evtchn_fifo::hypervisor::evtchn_fifo_fresh_domain;
-use evtchn_fifo::ledger::evtchn_fifo_fresh_ledger;
+use evtchn_fifo::guest::evtchn_fifo_bytes_fresh_guest;
+use evtchn_fifo::hypervisor::evtchn_fifo_bytes_fresh_domain;
+use evtchn_fifo::ledger::evtchn_fifo_bytes_fresh_ledger;
 use log::line::Line;
 use log::line::put_line;
 
@@ -66,9 +66,9 @@ pub extern "C" fn evtchn_replay_start(
 ) -> Position
     ensures { λ r. ⌜ ((line : List ℕ) → feedAt r line (now (due .exit)) (worldIn (now (domain .exit)) (now (ledger .exit)) (now (guest .exit)) (now (words .exit)) (now (block .exit))) ≡ feed (starts (entries (now (ledger .entry))) (length (now (words .entry)))) []) ⌝ }
 {
-    evtchn_fifo_fresh_domain(domain);
-    evtchn_fifo_fresh_ledger(ledger);
-    evtchn_fifo_fresh_guest(guest);
+    evtchn_fifo_bytes_fresh_domain(domain);
+    evtchn_fifo_bytes_fresh_ledger(ledger);
+    evtchn_fifo_bytes_fresh_guest(guest);
     zero(words);
     zero(block);
     let header = put_line(due, Line::Header);

@@ -28,7 +28,7 @@ static struct state {
     evtchn_fifo_guest guest;
     evtchn_fifo_shared shared;
     uint32_t lock;
-    uint32_t control[EVTCHN_FIFO_CONTROL_WORDS];
+    evtchn_fifo_control control;
     uint16_t ledger[EVTCHN_FIFO_PORTS];
     uint32_t apart[256]; /* addresses that differ by a multiple of 4,096 only hinder each other in the processor */
     uint32_t words[EVTCHN_FIFO_PORTS];
@@ -124,7 +124,7 @@ WHOLE whole_unmask_locked(struct state *s, uint32_t p)
 #ifdef CABLES
 static inline evtchn_cables_far send(const struct state *s, uint32_t hint)
 {
-    evtchn_cables_far far = evtchn_cables_send_from(&s->cables, s->end, hint);
+    evtchn_cables_far far = evtchn_cables_send(&s->cables, s->end, hint);
     if (far.code != EVTCHN_FIFO_DONE)
         fail("a send is refused");
     return far;
@@ -249,7 +249,7 @@ static void lay(uint32_t cables)
     evtchn_fifo_ledger_fresh(state.sender_ledger, SENDER_ENTRIES);
     done(evtchn_fifo_domain_init_control(&state.sender, 0, 0, 1, 0));
     done(evtchn_fifo_domain_bind(&state.sender, state.sender_ledger, SENDER_ENTRIES, SENDER_PORT));
-    laid = evtchn_cables_join(&state.cables, near, far);
+    laid = evtchn_cables_lay(&state.cables, near, far);
     if (laid.code != EVTCHN_FIFO_DONE || laid.slot != cables - 1)
         fail("the cable is not laid in the last slot");
     state.end = near;
@@ -296,18 +296,18 @@ static uint32_t local_head(void) { return record_word(state.guest.bytes, 4 * QUE
 static uint32_t local_ready(void) { return record_word(state.guest.bytes, 64); }
 
 static int is_linked(void) { return state.words[port] == 0xA0000000u && state.ledger[port] == 0x377u && tail() == port; }
-static int starts_queue(void) { return is_linked() && state.control[2 + QUEUE] == port && (state.control[0] & 1u << QUEUE); }
+static int starts_queue(void) { return is_linked() && state.control.head[QUEUE] == port && (state.control.ready & 1u << QUEUE); }
 static int ends_queue(void) { return is_linked() && state.words[other(others)] == (0xA0000000u | port); }
 static int is_still_linked(void) { return state.words[port] == (0xA0000000u | other(1)) && tail() == other(others); }
 static int is_clear(void) { return state.words[port] == 0; }
 static int is_bound(void) { return state.ledger[port] == 0x107u && is_clear(); }
 static int is_unchanged(void) { return memcmp(&state, &before, sizeof state) == 0; }
-static int is_served(void) { return is_clear() && state.control[0] == 0 && local_head() == other(1) && local_ready() == 1u << QUEUE; }
+static int is_served(void) { return is_clear() && state.control.ready == 0 && local_head() == other(1) && local_ready() == 1u << QUEUE; }
 
 static int are_served(void)
 {
     int more = others >= EIGHT;
-    return is_clear() && state.words[other(EIGHT - 1)] == 0 && state.control[0] == 0 &&
+    return is_clear() && state.words[other(EIGHT - 1)] == 0 && state.control.ready == 0 &&
            local_head() == (more ? other(EIGHT) : 0) && local_ready() == (more ? 1u << QUEUE : 0);
 }
 
@@ -481,7 +481,7 @@ static const struct call *named(const char *name)
 static void begin(void)
 {
     uint32_t k;
-    state.shared.control = state.control;
+    state.shared.control = &state.control;
     state.shared.pages = state.pages;
     state.shared.words = page_count * EVTCHN_FIFO_PAGE_WORDS;
     evtchn_fifo_domain_fresh(&state.domain);

@@ -307,7 +307,7 @@ static inline evtchn_fifo_next r6_reply(domain_record *domain, uint32_t seen)
     return end(domain, seen & ready_bit(domain->queue) ? EVTCHN_FIFO_DONE : EVTCHN_FIFO_UPCALL_WANTED);
 }
 
-evtchn_fifo_next evtchn_fifo_reply(uint8_t *domain_bytes, size_t domain_length, uint8_t *ledger, size_t ledger_length,
+evtchn_fifo_next evtchn_fifo_bytes_reply(uint8_t *domain_bytes, size_t domain_length, uint8_t *ledger, size_t ledger_length,
                                    uint32_t seen)
 {
     domain_record *domain = (domain_record *)domain_bytes;
@@ -331,7 +331,7 @@ evtchn_fifo_next evtchn_fifo_reply(uint8_t *domain_bytes, size_t domain_length, 
     }
 }
 
-evtchn_fifo_next evtchn_fifo_due(const uint8_t *domain_bytes, size_t domain_length)
+evtchn_fifo_next evtchn_fifo_bytes_due(const uint8_t *domain_bytes, size_t domain_length)
 {
     const domain_record *domain = (const domain_record *)domain_bytes;
     if (domain_length < EVTCHN_FIFO_DOMAIN_SIZE)
@@ -377,7 +377,7 @@ static inline uint32_t refusal(const domain_record *domain, size_t domain_length
     return 0;
 }
 
-evtchn_fifo_next evtchn_fifo_bind(uint8_t *domain_bytes, size_t domain_length, uint8_t *ledger, size_t ledger_length,
+evtchn_fifo_next evtchn_fifo_bytes_bind(uint8_t *domain_bytes, size_t domain_length, uint8_t *ledger, size_t ledger_length,
                                   uint64_t port)
 {
     domain_record *domain = (domain_record *)domain_bytes;
@@ -394,7 +394,7 @@ evtchn_fifo_next evtchn_fifo_bind(uint8_t *domain_bytes, size_t domain_length, u
     return at_once(EVTCHN_FIFO_DONE);
 }
 
-evtchn_fifo_next evtchn_fifo_close(uint8_t *domain_bytes, size_t domain_length, uint8_t *ledger, size_t ledger_length,
+evtchn_fifo_next evtchn_fifo_bytes_close(uint8_t *domain_bytes, size_t domain_length, uint8_t *ledger, size_t ledger_length,
                                    uint64_t port)
 {
     domain_record *domain = (domain_record *)domain_bytes;
@@ -411,7 +411,7 @@ evtchn_fifo_next evtchn_fifo_close(uint8_t *domain_bytes, size_t domain_length, 
     return at_once(EVTCHN_FIFO_DONE);
 }
 
-evtchn_fifo_next evtchn_fifo_set_priority(uint8_t *domain_bytes, size_t domain_length, uint8_t *ledger, size_t ledger_length,
+evtchn_fifo_next evtchn_fifo_bytes_set_priority(uint8_t *domain_bytes, size_t domain_length, uint8_t *ledger, size_t ledger_length,
                                           uint64_t port, uint64_t priority)
 {
     uint32_t refused = refusal((domain_record *)domain_bytes, domain_length, ledger_length, port);
@@ -440,17 +440,17 @@ static inline evtchn_fifo_next begin_link(enum owner owner, uint8_t *domain_byte
     return begin(domain, owner, (uint32_t)port);
 }
 
-evtchn_fifo_next evtchn_fifo_raise(uint8_t *domain, size_t domain_length, uint8_t *ledger, size_t ledger_length, uint64_t port)
+evtchn_fifo_next evtchn_fifo_bytes_raise(uint8_t *domain, size_t domain_length, uint8_t *ledger, size_t ledger_length, uint64_t port)
 {
     return begin_link(RAISE, domain, domain_length, ledger, ledger_length, port);
 }
 
-evtchn_fifo_next evtchn_fifo_unmask(uint8_t *domain, size_t domain_length, uint8_t *ledger, size_t ledger_length, uint64_t port)
+evtchn_fifo_next evtchn_fifo_bytes_unmask(uint8_t *domain, size_t domain_length, uint8_t *ledger, size_t ledger_length, uint64_t port)
 {
     return begin_link(UNMASK, domain, domain_length, ledger, ledger_length, port);
 }
 
-evtchn_fifo_next evtchn_fifo_init_control(uint8_t *domain_bytes, size_t domain_length, uint64_t vcpu, uint64_t frame,
+evtchn_fifo_next evtchn_fifo_bytes_init_control(uint8_t *domain_bytes, size_t domain_length, uint64_t vcpu, uint64_t frame,
                                           uint64_t frames, uint64_t offset)
 {
     domain_record *domain = (domain_record *)domain_bytes;
@@ -470,7 +470,7 @@ evtchn_fifo_next evtchn_fifo_init_control(uint8_t *domain_bytes, size_t domain_l
     return next_of(EVTCHN_FIFO_DONE, LINK_BITS, 0, 0);
 }
 
-evtchn_fifo_next evtchn_fifo_expand_array(uint8_t *domain_bytes, size_t domain_length, uint64_t frame, uint64_t frames)
+evtchn_fifo_next evtchn_fifo_bytes_expand_array(uint8_t *domain_bytes, size_t domain_length, uint64_t frame, uint64_t frames)
 {
     domain_record *domain = (domain_record *)domain_bytes;
     if (domain_length < EVTCHN_FIFO_DOMAIN_SIZE)
@@ -572,7 +572,7 @@ static inline evtchn_fifo_next g4_reply(guest_record *guest, uint32_t seen)
     return end_service(guest, seen & PENDING ? EVTCHN_FIFO_HANDED_OVER : EVTCHN_FIFO_TAKEN, guest->port);
 }
 
-evtchn_fifo_next evtchn_fifo_service(uint8_t *guest_bytes, size_t guest_length)
+evtchn_fifo_next evtchn_fifo_bytes_service(uint8_t *guest_bytes, size_t guest_length)
 {
     guest_record *guest = (guest_record *)guest_bytes;
     if (guest_length < EVTCHN_FIFO_GUEST_SIZE)
@@ -628,7 +628,7 @@ static inline evtchn_fifo_next name_clear_mask(const guest_record *guest)
     return guest->clear_mask.stage == CLEAR_MASK_READ ? name_clear_mask_read(port) : name_clear_mask_cas(port, guest->clear_mask.word);
 }
 
-evtchn_fifo_next evtchn_fifo_clear_mask(uint8_t *guest_bytes, size_t guest_length, uint64_t port)
+evtchn_fifo_next evtchn_fifo_bytes_clear_mask(uint8_t *guest_bytes, size_t guest_length, uint64_t port)
 {
     guest_record *guest = (guest_record *)guest_bytes;
     if (guest_length < EVTCHN_FIFO_GUEST_SIZE)
@@ -647,7 +647,7 @@ evtchn_fifo_next evtchn_fifo_clear_mask(uint8_t *guest_bytes, size_t guest_lengt
 
 /* ---- the guest's replies: a clear_mask's while one is under way, else a service's ---- */
 
-evtchn_fifo_next evtchn_fifo_service_reply(uint8_t *guest_bytes, size_t guest_length, uint32_t seen)
+evtchn_fifo_next evtchn_fifo_bytes_service_reply(uint8_t *guest_bytes, size_t guest_length, uint32_t seen)
 {
     guest_record *guest = (guest_record *)guest_bytes;
     if (guest_length < EVTCHN_FIFO_GUEST_SIZE)
@@ -664,7 +664,7 @@ evtchn_fifo_next evtchn_fifo_service_reply(uint8_t *guest_bytes, size_t guest_le
     }
 }
 
-evtchn_fifo_next evtchn_fifo_service_due(const uint8_t *guest_bytes, size_t guest_length)
+evtchn_fifo_next evtchn_fifo_bytes_service_due(const uint8_t *guest_bytes, size_t guest_length)
 {
     const guest_record *guest = (const guest_record *)guest_bytes;
     if (guest_length < EVTCHN_FIFO_GUEST_SIZE)
@@ -690,7 +690,7 @@ evtchn_fifo_next evtchn_fifo_mask(uint64_t port, uint64_t words)
     return next_of(ACCESS(OR, WORD), (uint32_t)port, MASKED, 0);
 }
 
-evtchn_fifo_next evtchn_fifo_tell(uint8_t *guest_bytes, size_t guest_length, uint64_t words)
+evtchn_fifo_next evtchn_fifo_bytes_tell(uint8_t *guest_bytes, size_t guest_length, uint64_t words)
 {
     guest_record *guest = (guest_record *)guest_bytes;
     if (guest_length < EVTCHN_FIFO_GUEST_SIZE)
@@ -704,7 +704,7 @@ evtchn_fifo_next evtchn_fifo_tell(uint8_t *guest_bytes, size_t guest_length, uin
 
 uint32_t evtchn_fifo_layout(void) { return EVTCHN_FIFO_LAYOUT; }
 
-uint32_t evtchn_fifo_fresh_domain(uint8_t *domain, size_t domain_length)
+uint32_t evtchn_fifo_bytes_fresh_domain(uint8_t *domain, size_t domain_length)
 {
     if (domain_length < EVTCHN_FIFO_DOMAIN_SIZE)
         return EVTCHN_FIFO_TOO_SHORT;
@@ -712,7 +712,7 @@ uint32_t evtchn_fifo_fresh_domain(uint8_t *domain, size_t domain_length)
     return EVTCHN_FIFO_DONE;
 }
 
-uint32_t evtchn_fifo_fresh_guest(uint8_t *guest, size_t guest_length)
+uint32_t evtchn_fifo_bytes_fresh_guest(uint8_t *guest, size_t guest_length)
 {
     if (guest_length < EVTCHN_FIFO_GUEST_SIZE)
         return EVTCHN_FIFO_TOO_SHORT;
@@ -720,7 +720,7 @@ uint32_t evtchn_fifo_fresh_guest(uint8_t *guest, size_t guest_length)
     return EVTCHN_FIFO_DONE;
 }
 
-uint32_t evtchn_fifo_fresh_ledger(uint8_t *ledger, size_t ledger_length)
+uint32_t evtchn_fifo_bytes_fresh_ledger(uint8_t *ledger, size_t ledger_length)
 {
     ledger_entry *entries = (ledger_entry *)ledger;
     size_t port;

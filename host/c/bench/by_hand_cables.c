@@ -135,7 +135,7 @@ static inline evtchn_cables_laid lay_ends(cable *slots, uint32_t near_end, uint3
     return laid;
 }
 
-evtchn_cables_laid evtchn_cables_lay(uint8_t *table, size_t table_length, const uint8_t *near, size_t near_length,
+evtchn_cables_laid evtchn_cables_bytes_lay(uint8_t *table, size_t table_length, const uint8_t *near, size_t near_length,
                                      const uint8_t *near_ledger, size_t near_ledger_length, const uint8_t *far, size_t far_length,
                                      const uint8_t *far_ledger, size_t far_ledger_length, uint64_t near_domain, uint64_t near_port,
                                      uint64_t far_domain, uint64_t far_port)
@@ -155,7 +155,7 @@ evtchn_cables_laid evtchn_cables_lay(uint8_t *table, size_t table_length, const 
     return lay_ends((cable *)table, end_of(near_domain, near_port), end_of(far_domain, far_port));
 }
 
-uint32_t evtchn_cables_cut(uint8_t *table, size_t table_length, const uint8_t *domain, size_t domain_length, const uint8_t *ledger,
+uint32_t evtchn_cables_bytes_cut(uint8_t *table, size_t table_length, const uint8_t *domain, size_t domain_length, const uint8_t *ledger,
                            size_t ledger_length, uint64_t number, uint64_t port)
 {
     uint32_t refused;
@@ -185,7 +185,7 @@ static inline evtchn_cables_far send_end(const cable *slots, uint32_t end, uint3
     return far;
 }
 
-evtchn_cables_far evtchn_cables_send(const uint8_t *table, size_t table_length, const uint8_t *domain, size_t domain_length,
+evtchn_cables_far evtchn_cables_bytes_send(const uint8_t *table, size_t table_length, const uint8_t *domain, size_t domain_length,
                                      const uint8_t *ledger, size_t ledger_length, uint64_t number, uint64_t port, uint32_t hint)
 {
     uint32_t refused;
@@ -201,13 +201,13 @@ evtchn_cables_far evtchn_cables_send(const uint8_t *table, size_t table_length, 
 
 /* ---- close and reply ---- */
 
-evtchn_fifo_next evtchn_cables_close(uint8_t *table, size_t table_length, uint8_t *domain, size_t domain_length, uint8_t *ledger,
+evtchn_fifo_next evtchn_cables_bytes_close(uint8_t *table, size_t table_length, uint8_t *domain, size_t domain_length, uint8_t *ledger,
                                      size_t ledger_length, uint64_t number, uint64_t port)
 {
     evtchn_fifo_next next;
     if (table_length < EVTCHN_CABLES_SIZE)
         return no_table();
-    next = evtchn_fifo_close(domain, domain_length, ledger, ledger_length, port);
+    next = evtchn_fifo_bytes_close(domain, domain_length, ledger, ledger_length, port);
     if (next.code == EVTCHN_FIFO_DONE)
         free_end((cable *)table, end_of(number, port));
     return next;
@@ -222,7 +222,7 @@ static inline uint32_t closing_port(const uint8_t *domain_bytes, size_t domain_l
     return domain->port;
 }
 
-evtchn_fifo_next evtchn_cables_reply(uint8_t *table, size_t table_length, uint8_t *domain, size_t domain_length, uint8_t *ledger,
+evtchn_fifo_next evtchn_cables_bytes_reply(uint8_t *table, size_t table_length, uint8_t *domain, size_t domain_length, uint8_t *ledger,
                                      size_t ledger_length, uint64_t number, uint32_t seen)
 {
     evtchn_fifo_next next;
@@ -230,7 +230,7 @@ evtchn_fifo_next evtchn_cables_reply(uint8_t *table, size_t table_length, uint8_
     if (table_length < EVTCHN_CABLES_SIZE)
         return no_table();
     port = closing_port(domain, domain_length);
-    next = evtchn_fifo_reply(domain, domain_length, ledger, ledger_length, seen);
+    next = evtchn_fifo_bytes_reply(domain, domain_length, ledger, ledger_length, seen);
     if (port != 0 && next.code == EVTCHN_FIFO_DONE)
         free_end((cable *)table, end_of(number, port));
     return next;

@@ -98,9 +98,9 @@ static inline int cas(uint32_t *word, uint32_t *old, uint32_t value)
 static inline evtchn_fifo_next r5(domain_record *domain, const evtchn_fifo_shared *shared, uint32_t port, uint32_t queue, uint32_t count)
 {
     uint32_t bit = 1u << queue;
-    store(shared->control + 2 + queue, port);
+    store(&shared->control->head[queue], port);
     domain->tails[queue] = port;
-    if (fetch_or(shared->control, bit) & bit)
+    if (fetch_or(&shared->control->ready, bit) & bit)
         return answer(EVTCHN_FIFO_DONE, 0, count + 2);
     return answer(EVTCHN_FIFO_UPCALL_WANTED, 0, count + 2);
 }
@@ -240,14 +240,14 @@ evtchn_fifo_next in_place_service(evtchn_fifo_guest *bytes, const evtchn_fifo_sh
     uint32_t ready, queue, port, count = 1;
     if (guest->stage - 1u < GUEST_STAGES || is_clearing(guest))
         return answer(EVTCHN_FIFO_CALL_UNDER_WAY, 0, 0);
-    ready = guest->ready | (swap(shared->control, 0) & 0xFFFFu);
+    ready = guest->ready | (swap(&shared->control->ready, 0) & 0xFFFFu);
     guest->ready = ready;
     if (ready == 0)
         return answer(EVTCHN_FIFO_NOTHING_READY, 0, 1);
     queue = (uint32_t)__builtin_ctz(ready);
     port = guest->heads[queue];
     if (port == 0) {
-        port = read(shared->control + 2 + queue);
+        port = read(&shared->control->head[queue]);
         count = 2;
     }
     return g2(guest, shared, queue, port, count);

@@ -13,11 +13,17 @@ typedef struct event {
 static const event events[] = {{41, 3}, {11, 3}, {21, 7}, {31, 15}, {12, 3}, {22, 7}, {13, 3}};
 #define EVENTS (sizeof events / sizeof *events)
 
+/* A whole call of the hypervisor's, by what its start gave: the answer's number. */
+static uint32_t run(world *w, evtchn_fifo_next start)
+{
+    return evtchn_fifo_run(&w->domain, w->ledger, WORLD_ENTRIES, &w->shared, start).code;
+}
+
 static bool raise_event(world *w, const event *e)
 {
-    bool bound = world_bind(w, e->port).code == EVTCHN_FIFO_DONE;
-    uint32_t set = evtchn_fifo_domain_set_priority(&w->domain, w->ledger, WORLD_ENTRIES, e->port, e->queue).code;
-    return bound && set == EVTCHN_FIFO_DONE && world_raise(w, e->port).code <= EVTCHN_FIFO_UPCALL_WANTED;
+    return run(w, evtchn_fifo_domain_bind(&w->domain, w->ledger, WORLD_ENTRIES, e->port)) == EVTCHN_FIFO_DONE &&
+           run(w, evtchn_fifo_domain_set_priority(&w->domain, w->ledger, WORLD_ENTRIES, e->port, e->queue)) == EVTCHN_FIFO_DONE &&
+           run(w, evtchn_fifo_domain_raise(&w->domain, w->ledger, WORLD_ENTRIES, e->port)) <= EVTCHN_FIFO_UPCALL_WANTED;
 }
 
 /* All are raised; after two of them a service takes the first. */
@@ -30,10 +36,10 @@ static bool begin(world *w)
     world_begin(w);
     for (k = 0; k < EVENTS; k++) {
         if (k == 2)
-            done = world_service(w).index == events[0].port && done;
+            done = evtchn_fifo_serve(&w->guest, &w->shared).index == events[0].port && done;
         done = raise_event(w, &events[k]) && done;
     }
-    return done && (world_ready(w) & ~w->control[0]) == 1u << events[0].queue;
+    return done && (world_ready(w) & ~w->control.ready) == 1u << events[0].queue;
 }
 
 /* The event that is to be taken after so many others of the backlog; NULL: there is none. */
@@ -52,25 +58,29 @@ static const event *in_turn(size_t at)
 static bool show_service(world *w, size_t at, uint32_t *accesses)
 {
     const event *due = in_turn(at);
-    evtchn_fifo_next next = world_service(w);
+    evtchn_fifo_outcome served = evtchn_fifo_serve(&w->guest, &w->shared);
     uint32_t code = due != NULL ? EVTCHN_FIFO_HANDED_OVER : EVTCHN_FIFO_NOTHING_READY;
     unsigned most = MOST_OF_A_SERVICE * ((unsigned)at + 1);
-    *accesses += next.value;
+    *accesses += served.count;
     printf("%10zu", at + 1);
-    if (next.code == EVTCHN_FIFO_HANDED_OVER)
-        printf("%13u%11u", (unsigned)next.index, (unsigned)(w->ledger[next.index] & 15u));
+    if (served.code == EVTCHN_FIFO_HANDED_OVER)
+        printf("%13u%11u", (unsigned)served.index, (unsigned)evtchn_fifo_entry_priority(w->ledger[served.index]));
     else
         printf("%13s%11s", "nothing", "-");
     printf("%16u%10u\n", (unsigned)*accesses, most);
-    return *accesses <= most && next.code == code && (due == NULL || next.index == due->port);
+    return *accesses <= most && served.code == code && (due == NULL || served.index == due->port);
 }
 
 bool backlog_show(void)
 {
     static world w;
-    bool holds = begin(&w);
+    bool holds = true;
     uint32_t accesses = 0;
     size_t at;
+    if (!begin(&w)) {
+        printf("\nHow soon: the ports could not be raised.\n");
+        return false;
+    }
     printf("\nHow soon: %zu ports stand on three queues, queue 3 by a local bit left over. The guest only services:\n\n", EVENTS - 1);
     printf("%10s%13s%11s%16s%10s\n", "service", "takes port", "of queue", "accesses made", "at most");
     for (at = 0; at < EVENTS; at++)

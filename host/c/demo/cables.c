@@ -29,7 +29,7 @@ uint32_t cables_lay(host *h, domain *near, uint32_t port)
     evtchn_cables_laid laid;
     pthread_rwlock_wrlock(&h->cable_lock);
     lock_both(near, far);
-    laid = evtchn_cables_join(&h->cables, end_of(near, port), end_of(far, far_port));
+    laid = evtchn_cables_lay(&h->cables, end_of(near, port), end_of(far, far_port));
     domain_count_refusal(near, laid.code);
     unlock_both(near, far);
     if (laid.code == EVTCHN_FIFO_DONE) {
@@ -42,7 +42,7 @@ uint32_t cables_lay(host *h, domain *near, uint32_t port)
 
 evtchn_cables_far cables_far(const domain *near, uint32_t port)
 {
-    return evtchn_cables_send_from(near->cables, end_of(near, port), near->joints[port].hint);
+    return evtchn_cables_send(near->cables, end_of(near, port), near->joints[port].hint);
 }
 
 /* The first half of a send; the cable lock is held. */

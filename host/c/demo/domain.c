@@ -3,19 +3,22 @@
 #include <string.h>
 
 #include "domain.h"
+#include "random.h"
 
-const char *const conduct_names[CONDUCTS] = {"plain", "masking", "reopening", "hostile"};
+const char *const conduct_names[CONDUCTS] = {"plain", "masking", "reopening", "contested", "hostile"};
 
 /* of both pages, with their first and last words */
 const uint32_t ports[PORTS] = {1, 2, 3, 5, 9, 100, 511, 512, 1022, 1023, 1024, 1025, 1500, 2000, 2046, 2047};
 
 /* A side gives way after so many accesses, so that the other comes between two of a call even on one processor. */
-static const uint32_t gives_way[CONDUCTS] = {61, 61, 61, 5};
+static const uint32_t gives_way[CONDUCTS] = {61, 61, 61, 1, 5};
+
+/* In a contested domain a side waits after an access for fewer than so many of the other's, but gives way so many times at most. */
+#define WAITED_FOR 4u
+#define MOST_WAITS 2u
 
 /* The frames that a replay supposes of a domain. */
 #define FRAMES 1024u
-
-typedef enum side { HYPERVISOR, GUEST } side;
 
 static void count_access(domain *d, evtchn_fifo_next next, uint32_t seen)
 {
@@ -24,14 +27,14 @@ static void count_access(domain *d, evtchn_fifo_next next, uint32_t seen)
     if (evtchn_fifo_place_of(next) != EVTCHN_FIFO_WORD)
         return;
     account = &d->accounts[next.index];
-    if (kind == EVTCHN_FIFO_OR && next.value == PENDING) { /* R1 */
-        if (seen & PENDING)
+    if (kind == EVTCHN_FIFO_OR && next.value == EVTCHN_FIFO_WORD_PENDING) { /* a raise's first */
+        if (seen & EVTCHN_FIFO_WORD_PENDING)
             account->coalesced++;
         else
             account->events++;
         atomic_fetch_add_explicit(&d->raises, 1, memory_order_relaxed);
     }
-    if (kind == EVTCHN_FIFO_AND && next.value == ~PENDING && (seen & PENDING)) /* a close's */
+    if (kind == EVTCHN_FIFO_AND && next.value == ~EVTCHN_FIFO_WORD_PENDING && (seen & EVTCHN_FIFO_WORD_PENDING)) /* a close's */
         account->closed++;
 }
 
@@ -60,6 +63,7 @@ static bool is_unexpected(uint32_t code)
 
 static void count_answer(tally *t, evtchn_fifo_next next, uint32_t made)
 {
+    t->latest = made;
     if (made > t->longest)
         t->longest = made;
     t->abandoned += next.code == EVTCHN_FIFO_LINK_ABANDONED;
@@ -97,29 +101,67 @@ static bool step(domain *d, side caller, evtchn_fifo_next *next)
     return hypervisor_step(d, next);
 }
 
+/* Waits till the other side, while it is at work, has made some accesses, so that they fall between two of the caller's. */
+static void wait_for_other(domain *d, side caller, uint64_t *random)
+{
+    side_seen *other = &d->sides[caller == GUEST ? HYPERVISOR : GUEST];
+    unsigned begun = atomic_load(&other->accesses), wanted = random_below(random, WAITED_FOR), waits;
+    for (waits = 0; waits < MOST_WAITS && atomic_load(&other->at_work) && atomic_load(&other->accesses) - begun < wanted; waits++)
+        sched_yield();
+}
+
+/* Whether a hypervisor's call, after the accesses made, goes on with one to the word of its queue's tail. */
+static bool is_at_tail(evtchn_fifo_next next, uint32_t made)
+{
+    return made >= 3 && evtchn_fifo_is_access(next) && evtchn_fifo_place_of(next) == EVTCHN_FIFO_WORD;
+}
+
+/* After each access. */
+static void give_way(domain *d, side caller, tally *t, bool contended)
+{
+    atomic_fetch_add_explicit(&d->sides[caller].accesses, 1, memory_order_relaxed);
+    if (++t->accesses % gives_way[d->conduct] != 0)
+        return;
+    if (d->conduct != CONTESTED)
+        sched_yield();
+    else if (contended)
+        wait_for_other(d, caller, &t->random);
+}
+
 /* A call of a side, from its start to its answer. An access outside what is mapped is counted and not made. */
 static evtchn_fifo_next run(domain *d, side caller, tally *t, evtchn_fifo_next next)
 {
     uint32_t made = 0;
-    while (evtchn_fifo_is_access(next)) {
-        if (!step(d, caller, &next)) {
-            t->outside++;
-            return next;
-        }
+    while (evtchn_fifo_is_access(next) && step(d, caller, &next)) {
         made++;
-        if (++t->accesses % gives_way[d->conduct] == 0)
-            sched_yield();
+        give_way(d, caller, t, caller == GUEST || is_at_tail(next, made));
     }
-    count_answer(t, next, made);
+    if (evtchn_fifo_is_access(next))
+        t->outside++;
+    else
+        count_answer(t, next, made);
     return next;
+}
+
+static void count_length(domain *d)
+{
+    uint32_t length = d->hypervisor.latest;
+    d->lengths[length < MOST_ACCESSES ? length : MOST_ACCESSES]++;
 }
 
 uint32_t domain_finish(domain *d, evtchn_fifo_next next)
 {
+    uint32_t call = evtchn_fifo_domain_under_way(&d->record);
+    atomic_store(&d->sides[HYPERVISOR].at_work, true);
     next = run(d, HYPERVISOR, &d->hypervisor, next);
+    atomic_store(&d->sides[HYPERVISOR].at_work, false);
+    if ((call == EVTCHN_FIFO_RAISE || call == EVTCHN_FIFO_UNMASK) && !evtchn_fifo_is_access(next))
+        count_length(d);
     pthread_mutex_unlock(&d->lock);
-    if (next.code == EVTCHN_FIFO_UPCALL_WANTED)
+    if (next.code == EVTCHN_FIFO_UPCALL_WANTED) {
+        atomic_store(&d->sides[GUEST].at_work, true);
         upcall_want(&d->upcall);
+    }
     return next.code;
 }
 
@@ -180,6 +222,7 @@ void domain_mask(domain *d, uint32_t port)
 {
     if (evtchn_fifo_trace_mask(d->trace, &d->shared, port, WORDS).code != EVTCHN_FIFO_DONE)
         d->guest.outside++;
+    give_way(d, GUEST, &d->guest, true);
 }
 
 uint32_t domain_clear_mask(domain *d, uint32_t port)
@@ -196,7 +239,7 @@ static void fresh(domain *d)
     pthread_cond_init(&d->upcall.changed, NULL);
     for (k = 0; k < PAGES; k++)
         d->pages[k] = d->array[k];
-    d->shared = (evtchn_fifo_shared){d->control, d->pages, WORDS};
+    d->shared = (evtchn_fifo_shared){&d->control, d->pages, WORDS};
     evtchn_fifo_domain_fresh(&d->record);
     evtchn_fifo_guest_fresh(&d->guest_record);
     evtchn_fifo_ledger_fresh(d->ledger, WORDS);
@@ -209,6 +252,7 @@ bool domain_begin(domain *d, uint32_t number, conduct kind, evtchn_cables *cable
     d->conduct = kind;
     d->number = number;
     d->seed = number + 1;
+    d->hypervisor.random = d->guest.random = d->clear_masks.random = number + 1;
     d->trace = trace;
     d->cables = cables;
     refusals = evtchn_fifo_trace_init_control(trace, &d->record, 0, 0, FRAMES, 0).code;
@@ -217,7 +261,7 @@ bool domain_begin(domain *d, uint32_t number, conduct kind, evtchn_cables *cable
         evtchn_fifo_guest_tell(&d->guest_record, k * EVTCHN_FIFO_PAGE_WORDS);
     }
     for (k = 0; k < PORTS; k++)
-        refusals |= domain_bind(d, ports[k]) | domain_set_priority(d, ports[k], k % 4 * 5);
+        refusals |= domain_bind(d, ports[k]) | domain_set_priority(d, ports[k], kind == CONTESTED ? 0 : k % 4 * 5);
     return refusals == EVTCHN_FIFO_DONE;
 }
 

@@ -14,21 +14,22 @@
 #define WORDS (PAGES * EVTCHN_FIFO_PAGE_WORDS)
 #define PORTS 16u
 
-#define PENDING 0x80000000u
-#define MASKED 0x40000000u
-#define LINKED 0x20000000u
-#define BUSY 0x10000000u
+/* No call makes more accesses. */
+#define MOST_ACCESSES 12u
 
 /* How a guest behaves, and what the hypervisor does with its ports beside raises. */
 typedef enum conduct {
     PLAIN,     /* services */
     MASKING,   /* services, masks, and unmasks: by clear_mask, and where that gives 35 it asks for unmask */
     REOPENING, /* services, while ports are closed, bound again and given other priorities */
+    CONTESTED, /* masking, of more ports, while each side waits for the other between two accesses */
     HOSTILE,   /* services, and writes random words all the time */
     CONDUCTS
 } conduct;
 
 extern const char *const conduct_names[CONDUCTS];
+
+typedef enum side { HYPERVISOR, GUEST, SIDES } side;
 
 /* One port's events; the last is counted by the guest, the others by the hypervisor. A raise by a send is a raise. */
 typedef struct port_account {
@@ -55,6 +56,7 @@ typedef struct cable_tally {
 
 /* What one side counts of its calls. */
 typedef struct tally {
+    uint32_t latest;      /* accesses of the latest call that came to its answer */
     uint32_t longest;     /* most accesses of a call */
     uint64_t abandoned;   /* answers 2 */
     uint64_t bad_index;   /* answers 18 */
@@ -62,7 +64,14 @@ typedef struct tally {
     uint64_t miscounted;  /* answers whose count is not the number of accesses made */
     uint64_t refused;     /* refusals that no call of the demo may get */
     uint64_t accesses;
+    uint64_t random;      /* for how long it waits where it is contested */
 } tally;
+
+/* What the other side of a contested domain sees of one. */
+typedef struct side_seen {
+    atomic_bool at_work;  /* the hypervisor: in a call; a guest: from its upcall until it waits for another */
+    atomic_uint accesses;
+} side_seen;
 
 /* A guest's unmasks. */
 typedef struct unmask_tally {
@@ -92,9 +101,11 @@ typedef struct domain {
     evtchn_fifo_domain record;
     uint16_t ledger[WORDS];
     tally hypervisor;
-    atomic_ullong raises; /* for the progress line */
+    uint64_t lengths[MOST_ACCESSES + 1]; /* raises and unmasks by their number of accesses; a longer one counts as the longest */
+    atomic_ullong raises;                /* for the view of a run */
+    side_seen sides[SIDES];
 
-    uint32_t control[EVTCHN_FIFO_CONTROL_WORDS];
+    evtchn_fifo_control control;
     uint32_t array[PAGES][EVTCHN_FIFO_PAGE_WORDS];
     uint32_t *pages[PAGES];
     evtchn_fifo_shared shared;
@@ -103,13 +114,16 @@ typedef struct domain {
     tally guest; /* of services and masks */
     tally clear_masks;
     unmask_tally unmasks;
-    atomic_ullong hand_overs; /* for the progress line */
+    atomic_ullong hand_overs; /* for the view of a run */
     upcall upcall;
 
     port_account accounts[WORDS];
 } domain;
 
 extern const uint32_t ports[PORTS];
+
+/* Of a contested domain's ports, all on one queue, the hypervisor raises only the first few: they meet the more often. */
+#define CONTESTED_PORTS 3u
 
 /* A fresh domain with two pages, told to its guest, and its ports bound on several priorities; false where a call refuses. */
 bool domain_begin(domain *d, uint32_t number, conduct kind, evtchn_cables *cables, evtchn_fifo_trace *trace);

@@ -58,7 +58,7 @@ typedef struct state {
     evtchn_fifo_domain record;
     evtchn_fifo_guest guest;
     uint16_t ledger[WORDS];
-    uint32_t control[EVTCHN_FIFO_CONTROL_WORDS];
+    evtchn_fifo_control control;
     uint32_t words[PAGES][EVTCHN_FIFO_PAGE_WORDS];
 } state;
 
@@ -105,7 +105,7 @@ static evtchn_fifo_shared shared_of(state *d, uint32_t *pages[PAGES])
     uint32_t k;
     for (k = 0; k < PAGES; k++)
         pages[k] = d->words[k];
-    return (evtchn_fifo_shared){d->control, pages, WORDS};
+    return (evtchn_fifo_shared){&d->control, pages, WORDS};
 }
 
 /* The word to hand back: that of the access, which is made where one is due, or another. */
@@ -174,7 +174,7 @@ static evtchn_cables_end end_of(const run *r, uint32_t domain, uint32_t port)
 
 static uint32_t lay(run *r, const order *o)
 {
-    evtchn_cables_laid laid = evtchn_cables_join(&r->cables, end_of(r, o->domain, o->port), end_of(r, o->far_domain, o->far_port));
+    evtchn_cables_laid laid = evtchn_cables_lay(&r->cables, end_of(r, o->domain, o->port), end_of(r, o->far_domain, o->far_port));
     char text[LINE / 2];
     snprintf(text, sizeof text, "lay %u.%u to %u.%u: answer %u, slot %u", o->domain, o->port, o->far_domain, o->far_port, laid.code,
              laid.slot);
@@ -184,7 +184,7 @@ static uint32_t lay(run *r, const order *o)
 
 static uint32_t cut(run *r, const order *o)
 {
-    uint32_t code = evtchn_cables_part(&r->cables, end_of(r, o->domain, o->port));
+    uint32_t code = evtchn_cables_cut(&r->cables, end_of(r, o->domain, o->port));
     char text[LINE / 2];
     snprintf(text, sizeof text, "cut %u.%u: answer %u", o->domain, o->port, code);
     write_answer(r, text);
@@ -194,7 +194,7 @@ static uint32_t cut(run *r, const order *o)
 /* A send that comes through is a raise of the far domain's: what it comes to is heard of that domain. */
 static uint32_t send_from(run *r, const order *o)
 {
-    evtchn_cables_far far = evtchn_cables_send_from(&r->cables, end_of(r, o->domain, o->port), o->argument);
+    evtchn_cables_far far = evtchn_cables_send(&r->cables, end_of(r, o->domain, o->port), o->argument);
     char text[LINE / 2];
     snprintf(text, sizeof text, "send %u.%u: answer %u, to %u.%u, slot %u", o->domain, o->port, far.code, far.domain, far.port, far.slot);
     write_answer(r, text);
@@ -337,7 +337,7 @@ static void begin(run *r, uint64_t random, bool any_words)
         evtchn_fifo_ledger_fresh(r->domains[k].ledger, WORDS);
     }
     for (k = 0; any_words && k < EVTCHN_FIFO_CONTROL_WORDS; k++)
-        hers->control[k] = random_word(&r->random);
+        ((uint32_t *)&hers->control)[k] = random_word(&r->random);
     for (k = 0; any_words && k < WORDS; k++)
         hers->words[k / EVTCHN_FIFO_PAGE_WORDS][k % EVTCHN_FIFO_PAGE_WORDS] = random_word(&r->random);
 }

@@ -8,11 +8,17 @@
 /* A masking guest masks one port in so many that it is handed. */
 #define MASKS_ONE_IN 8u
 
+/* A contested guest waits for an upcall when so many of its services found nothing. */
+#define IDLE_SERVICES 8u
+
 /* A guest sends on one port in so many that it is handed and that have a cable. */
 #define SENDS_ONE_IN 2u
 
 /* A hostile guest sends on any port after one service in so many. */
 #define HOSTILE_SENDS_ONE_IN 8u
+
+/* Services of a guest once no more is raised: a right library leaves far fewer to make. A wrong one may leave a ring of ports. */
+#define MOST_LAST_SERVICES 1000u
 
 /* A hostile guest's writes to one word between two pauses. */
 #define WRITES 1000u
@@ -23,9 +29,18 @@ typedef struct masked_ports {
     uint32_t count;
 } masked_ports;
 
+static bool is_masked(const masked_ports *masked, uint32_t port)
+{
+    uint32_t k;
+    for (k = 0; k < masked->count; k++)
+        if (masked->port[k] == port)
+            return true;
+    return false;
+}
+
 static void mask(domain *d, masked_ports *masked, uint32_t port)
 {
-    if (masked->count == PORTS)
+    if (is_masked(masked, port) || masked->count == PORTS)
         return;
     domain_mask(d, port);
     masked->port[masked->count++] = port;
@@ -46,10 +61,27 @@ static void unmask(domain *d, uint32_t port)
     }
 }
 
+static void unmask_last(domain *d, masked_ports *masked)
+{
+    if (masked->count > 0)
+        unmask(d, masked->port[--masked->count]);
+}
+
+/* Unmasks the last port, and masks it at once. */
+static void flip_last(domain *d, masked_ports *masked)
+{
+    uint32_t port;
+    if (masked->count == 0)
+        return;
+    port = masked->port[masked->count - 1];
+    unmask_last(d, masked);
+    mask(d, masked, port);
+}
+
 static void unmask_all(domain *d, masked_ports *masked)
 {
     while (masked->count > 0)
-        unmask(d, masked->port[--masked->count]);
+        unmask_last(d, masked);
 }
 
 /* A send is a call of the hypervisor's. The far guest may answer it by another, so that none is begun once the host is stopped. */
@@ -63,27 +95,57 @@ static void ask_for_send(guest_thread *self, uint32_t port)
 static void take_event(guest_thread *self, uint32_t port, masked_ports *masked, uint64_t *random)
 {
     domain *d = self->domain;
-    if (d->conduct == MASKING && random_below(random, MASKS_ONE_IN) == 0)
+    if (d->conduct == CONTESTED || (d->conduct == MASKING && random_below(random, MASKS_ONE_IN) == 0))
         mask(d, masked, port);
     if (d->joints[port].far_port != 0 && random_below(random, SENDS_ONE_IN) == 0)
         ask_for_send(self, port);
 }
 
+static bool may_serve(guest_thread *self)
+{
+    self->last_services += atomic_load(&self->host->stopped);
+    return self->last_services <= MOST_LAST_SERVICES;
+}
+
+/* One service: whether it took a port. */
+static bool serve(guest_thread *self, masked_ports *masked, uint64_t *random)
+{
+    uint32_t port, answer = domain_service(self->domain, &port);
+    if (answer == EVTCHN_FIFO_HANDED_OVER)
+        take_event(self, port, masked, random);
+    return answer == EVTCHN_FIFO_HANDED_OVER || answer == EVTCHN_FIFO_TAKEN;
+}
+
 static void serve_until_idle(guest_thread *self, masked_ports *masked, uint64_t *random)
 {
-    uint32_t port, answer;
-    while ((answer = domain_service(self->domain, &port)) == EVTCHN_FIFO_HANDED_OVER || answer == EVTCHN_FIFO_TAKEN) {
-        if (answer == EVTCHN_FIFO_HANDED_OVER)
-            take_event(self, port, masked, random);
-    }
+    while (may_serve(self) && serve(self, masked, random))
+        continue;
+}
+
+/* Services, masks and unmasks in any order, of ports that may stand: a raise that finds one as its queue's tail sees its word change. */
+static void contest(guest_thread *self, masked_ports *masked, uint64_t *random)
+{
+    uint32_t idle = 0;
+    while (!atomic_load(&self->host->stopped) && idle < IDLE_SERVICES)
+        switch (random_below(random, 6)) {
+        case 0: mask(self->domain, masked, ports[random_below(random, CONTESTED_PORTS)]); break;
+        case 1: unmask_last(self->domain, masked); break;
+        case 2: flip_last(self->domain, masked); break;
+        default: idle += !serve(self, masked, random); break;
+        }
 }
 
 static void serve_upcalls(guest_thread *self, uint64_t *random)
 {
+    atomic_bool *at_work = &self->domain->sides[GUEST].at_work;
     masked_ports masked = {{0}, 0};
     while (upcall_wait(&self->domain->upcall)) {
+        atomic_store(at_work, true);
+        if (self->domain->conduct == CONTESTED)
+            contest(self, &masked, random);
         serve_until_idle(self, &masked, random);
         unmask_all(self->domain, &masked);
+        atomic_store(at_work, false);
     }
 }
 
@@ -129,7 +191,7 @@ static void write_anything(domain *d, uint64_t *random)
 {
     uint32_t k;
     for (k = 0; k < EVTCHN_FIFO_CONTROL_WORDS; k++)
-        write_word(&d->control[k], random_word(random));
+        write_word((uint32_t *)&d->control + k, random_word(random));
     for (k = 0; k < PORTS; k++)
         write_word(word_of(d, ports[k]), random_word(random));
 }
@@ -142,7 +204,7 @@ static void write_one_word(domain *d, uint64_t *random)
     for (k = 0; k < PORTS; k++)
         write_word(word_of(d, ports[k]), 0);
     for (k = 0; k < WRITES; k++)
-        write_word(word, LINKED | ports[k % PORTS]);
+        write_word(word, EVTCHN_FIFO_WORD_LINKED | ports[k % PORTS]);
 }
 
 void *hostile_write_run(void *argument)

@@ -21,19 +21,37 @@ static void reopen(host *h, domain *d, uint32_t port)
     bind_port(h, d, port);
 }
 
+/* Of a reopening guest's ports every second is let again, and all get other priorities, one event in so many. */
+static void change(host *h, domain *d, uint32_t at, uint64_t *random)
+{
+    switch (random_below(random, 16)) {
+    case 0:
+        if (at % 2 == 0)
+            reopen(h, d, ports[at]);
+        break;
+    case 1: domain_set_priority(d, ports[at], random_below(random, EVTCHN_FIFO_QUEUES)); break;
+    default: break;
+    }
+}
+
 /* One event of a domain. Where the port is not bound, since its last bind gave 7, it is bound. */
 static void one_event(host *h, domain *d, uint64_t *random)
 {
-    uint32_t port = ports[random_below(random, PORTS)];
-    if (domain_raise(d, port) == EVTCHN_FIFO_NOT_BOUND)
-        bind_port(h, d, port);
-    if (d->conduct != REOPENING)
-        return;
-    switch (random_below(random, 16)) {
-    case 0: reopen(h, d, port); break;
-    case 1: domain_set_priority(d, port, random_below(random, EVTCHN_FIFO_QUEUES)); break;
-    default: break;
-    }
+    uint32_t at = random_below(random, d->conduct == CONTESTED ? CONTESTED_PORTS : PORTS);
+    if (domain_raise(d, ports[at]) == EVTCHN_FIFO_NOT_BOUND)
+        bind_port(h, d, ports[at]);
+    if (d->conduct == REOPENING)
+        change(h, d, at, random);
+}
+
+/* Any domain that is contested, or any that is not: such a domain would keep the others' threads waiting. */
+static domain *draw_domain(const hypervisor_thread *self, uint64_t *random)
+{
+    domain *d;
+    do
+        d = &self->host->domains[random_below(random, self->host->count)];
+    while ((d->conduct == CONTESTED) != self->contested);
+    return d;
 }
 
 void *hypervisor_run(void *argument)
@@ -41,7 +59,7 @@ void *hypervisor_run(void *argument)
     hypervisor_thread *self = argument;
     uint64_t random = self->seed;
     while (!atomic_load(&self->host->stopped)) {
-        domain *d = &self->host->domains[random_below(&random, self->host->count)];
+        domain *d = draw_domain(self, &random);
         uint32_t k, events = random_below(&random, MOST_EVENTS) + 1;
         for (k = 0; k < events; k++)
             one_event(self->host, d, &random);

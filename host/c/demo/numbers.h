@@ -5,6 +5,8 @@
 #include <stdint.h>
 #include <stdio.h>
 
+#include "colours.h"
+
 /* A number with a comma before each group of three digits, right in its column. */
 static inline void print_number(uint64_t number, int width)
 {
@@ -19,6 +21,14 @@ static inline void print_number(uint64_t number, int width)
         digits++;
     } while (number > 0);
     printf("%*s", width, text + at);
+}
+
+/* A number that should be 0: in red where it is not. */
+static inline void print_fault(uint64_t number, int width)
+{
+    printf("%s", colour_if(number > 0, RED));
+    print_number(number, width);
+    printf("%s", colour_if(number > 0, PLAIN_COLOUR));
 }
 
 #endif

@@ -4,6 +4,8 @@
 
 #include "domain.h"
 
+#define MOST_DOMAINS 256u
+
 /* All domains, their number, and the cables between them. */
 typedef struct host {
     domain *domains;
@@ -18,12 +20,14 @@ typedef struct host {
 typedef struct guest_thread {
     domain *domain;
     host *host;
+    uint32_t last_services; /* since the host was stopped */
 } guest_thread;
 
 /* A thread of the hypervisor's. */
 typedef struct hypervisor_thread {
     host *host;
     uint64_t seed;
+    bool contested; /* it raises on contested domains, else on all others */
 } hypervisor_thread;
 
 /* Each takes the address of its own struct. */

@@ -85,22 +85,22 @@ static evtchn_fifo_next only(uint32_t code)
     return next;
 }
 
-static evtchn_fifo_next fresh_domain(void) { return only(evtchn_fifo_fresh_domain(record, length)); }
-static evtchn_fifo_next init_control(void) { return evtchn_fifo_init_control(record, length, 0, 0, 1, 0); }
-static evtchn_fifo_next expand_array(void) { return evtchn_fifo_expand_array(record, length, 0, 1); }
-static evtchn_fifo_next bind(void) { return evtchn_fifo_bind(record, length, table, ledger_length, PORT); }
-static evtchn_fifo_next close(void) { return evtchn_fifo_close(record, length, table, ledger_length, PORT); }
-static evtchn_fifo_next set_priority(void) { return evtchn_fifo_set_priority(record, length, table, ledger_length, PORT, 9); }
-static evtchn_fifo_next raise(void) { return evtchn_fifo_raise(record, length, table, ledger_length, PORT); }
-static evtchn_fifo_next unmask(void) { return evtchn_fifo_unmask(record, length, table, ledger_length, PORT); }
-static evtchn_fifo_next reply(void) { return evtchn_fifo_reply(record, length, table, ledger_length, seen); }
-static evtchn_fifo_next due(void) { return evtchn_fifo_due(record, length); }
-static evtchn_fifo_next fresh_guest(void) { return only(evtchn_fifo_fresh_guest(record, length)); }
-static evtchn_fifo_next service(void) { return evtchn_fifo_service(record, length); }
-static evtchn_fifo_next service_reply(void) { return evtchn_fifo_service_reply(record, length, seen); }
-static evtchn_fifo_next service_due(void) { return evtchn_fifo_service_due(record, length); }
-static evtchn_fifo_next tell(void) { return evtchn_fifo_tell(record, length, seen); }
-static evtchn_fifo_next clear_mask(void) { return evtchn_fifo_clear_mask(record, length, PORT); }
+static evtchn_fifo_next fresh_domain(void) { return only(evtchn_fifo_bytes_fresh_domain(record, length)); }
+static evtchn_fifo_next init_control(void) { return evtchn_fifo_bytes_init_control(record, length, 0, 0, 1, 0); }
+static evtchn_fifo_next expand_array(void) { return evtchn_fifo_bytes_expand_array(record, length, 0, 1); }
+static evtchn_fifo_next bind(void) { return evtchn_fifo_bytes_bind(record, length, table, ledger_length, PORT); }
+static evtchn_fifo_next close(void) { return evtchn_fifo_bytes_close(record, length, table, ledger_length, PORT); }
+static evtchn_fifo_next set_priority(void) { return evtchn_fifo_bytes_set_priority(record, length, table, ledger_length, PORT, 9); }
+static evtchn_fifo_next raise(void) { return evtchn_fifo_bytes_raise(record, length, table, ledger_length, PORT); }
+static evtchn_fifo_next unmask(void) { return evtchn_fifo_bytes_unmask(record, length, table, ledger_length, PORT); }
+static evtchn_fifo_next reply(void) { return evtchn_fifo_bytes_reply(record, length, table, ledger_length, seen); }
+static evtchn_fifo_next due(void) { return evtchn_fifo_bytes_due(record, length); }
+static evtchn_fifo_next fresh_guest(void) { return only(evtchn_fifo_bytes_fresh_guest(record, length)); }
+static evtchn_fifo_next service(void) { return evtchn_fifo_bytes_service(record, length); }
+static evtchn_fifo_next service_reply(void) { return evtchn_fifo_bytes_service_reply(record, length, seen); }
+static evtchn_fifo_next service_due(void) { return evtchn_fifo_bytes_service_due(record, length); }
+static evtchn_fifo_next tell(void) { return evtchn_fifo_bytes_tell(record, length, seen); }
+static evtchn_fifo_next clear_mask(void) { return evtchn_fifo_bytes_clear_mask(record, length, PORT); }
 
 static const call domain_calls[] = {{"fresh_domain", fresh_domain}, {"init_control", init_control}, {"expand_array", expand_array},
                                     {"bind", bind}, {"close", close}, {"set_priority", set_priority}, {"raise", raise},
@@ -223,10 +223,10 @@ static void fresh(void)
     uint8_t zeros[EVTCHN_FIFO_GUEST_SIZE];
     memset(zeros, 0, sizeof zeros);
     fill();
-    CHECK(evtchn_fifo_fresh_domain(bytes + 1, EVTCHN_FIFO_DOMAIN_SIZE) == 0);
+    CHECK(evtchn_fifo_bytes_fresh_domain(bytes + 1, EVTCHN_FIFO_DOMAIN_SIZE) == 0);
     CHECK(memcmp(bytes + 1, zeros, EVTCHN_FIFO_DOMAIN_SIZE) == 0 && bytes[0] == record_fill(0) && others_kept(1 + EVTCHN_FIFO_DOMAIN_SIZE));
     fill();
-    CHECK(evtchn_fifo_fresh_guest(bytes + 1, EVTCHN_FIFO_GUEST_SIZE) == 0);
+    CHECK(evtchn_fifo_bytes_fresh_guest(bytes + 1, EVTCHN_FIFO_GUEST_SIZE) == 0);
     CHECK(memcmp(bytes + 1, zeros, EVTCHN_FIFO_GUEST_SIZE) == 0 && bytes[0] == record_fill(0) && others_kept(1 + EVTCHN_FIFO_GUEST_SIZE));
 }
 
@@ -236,7 +236,7 @@ static void fresh_ledger(size_t lent)
     size_t entries = lent / EVTCHN_FIFO_ENTRY_SIZE, k;
     int holds = 1;
     fill();
-    CHECK(evtchn_fifo_fresh_ledger(table + 1, lent) == 0);
+    CHECK(evtchn_fifo_bytes_fresh_ledger(table + 1, lent) == 0);
     for (k = 0; k < entries; k++)
         holds = holds && table[1 + 2 * k] == 7 && table[2 + 2 * k] == 0;
     for (k = 1 + 2 * entries; k < LEDGER_BYTES; k++)
@@ -249,12 +249,12 @@ static void ledgers(void)
     size_t lent;
     for (lent = 0; lent < LEDGER_BYTES; lent++)
         fresh_ledger(lent);
-    CHECK(evtchn_fifo_fresh_ledger(NULL, 0) == 0);
-    evtchn_fifo_fresh_domain(bytes, EVTCHN_FIFO_DOMAIN_SIZE);
-    evtchn_fifo_init_control(bytes, EVTCHN_FIFO_DOMAIN_SIZE, 0, 0, 1, 0);
-    CHECK(evtchn_fifo_bind(bytes, EVTCHN_FIFO_DOMAIN_SIZE, table + 1, 13, 6).code == 14);
-    CHECK(evtchn_fifo_bind(bytes, EVTCHN_FIFO_DOMAIN_SIZE, table + 1, 14, 6).code == 0);
-    CHECK(evtchn_fifo_bind(bytes, EVTCHN_FIFO_DOMAIN_SIZE, NULL, 0, 6).code == 14);
+    CHECK(evtchn_fifo_bytes_fresh_ledger(NULL, 0) == 0);
+    evtchn_fifo_bytes_fresh_domain(bytes, EVTCHN_FIFO_DOMAIN_SIZE);
+    CHECK(evtchn_fifo_bytes_init_control(bytes, EVTCHN_FIFO_DOMAIN_SIZE, 0, 0, 1, 0).code == 0);
+    CHECK(evtchn_fifo_bytes_bind(bytes, EVTCHN_FIFO_DOMAIN_SIZE, table + 1, 13, 6).code == 14);
+    CHECK(evtchn_fifo_bytes_bind(bytes, EVTCHN_FIFO_DOMAIN_SIZE, table + 1, 14, 6).code == 0);
+    CHECK(evtchn_fifo_bytes_bind(bytes, EVTCHN_FIFO_DOMAIN_SIZE, NULL, 0, 6).code == 14);
 }
 
 int main(void)

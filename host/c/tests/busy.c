@@ -158,7 +158,7 @@ static void leave_seen(const char *line)
     if (place[0] == 'w')
         w.page[TAIL] = so_far.seen = seen;
     if (place[0] == 'r')
-        w.control[0] = seen;
+        w.control.ready = seen;
 }
 
 static void go(const way *one, uint32_t owner)
@@ -250,8 +250,8 @@ static uint8_t domain[EVTCHN_FIFO_DOMAIN_SIZE], ledger[(PORT + 1) * EVTCHN_FIFO_
 
 static void store(uint32_t owner, uint32_t stage, uint32_t queue, uint32_t word, uint32_t tries)
 {
-    evtchn_fifo_fresh_domain(domain, sizeof domain);
-    evtchn_fifo_fresh_ledger(ledger, sizeof ledger);
+    evtchn_fifo_bytes_fresh_domain(domain, sizeof domain);
+    evtchn_fifo_bytes_fresh_ledger(ledger, sizeof ledger);
     put(domain, TAILS + 4 * QUEUE, TAIL);
     put(domain, OWNER, owner);
     put(domain, STAGE, stage);
@@ -284,10 +284,10 @@ static int is_reply(uint32_t owner, uint32_t stage, uint32_t word, uint32_t trie
     if (!evtchn_fifo_is_access(expected.next))
         expected.next.value = 7;
     store(owner, stage, QUEUE, word, tries);
-    next = evtchn_fifo_reply(domain, sizeof domain, ledger, sizeof ledger, seen);
+    next = evtchn_fifo_bytes_reply(domain, sizeof domain, ledger, sizeof ledger, seen);
     if (!is_same(next, expected.next) || !is_left(&expected, owner))
         return 0;
-    return !evtchn_fifo_is_access(next) || is_same(evtchn_fifo_due(domain, sizeof domain), next);
+    return !evtchn_fifo_is_access(next) || is_same(evtchn_fifo_bytes_due(domain, sizeof domain), next);
 }
 
 static int are_replies(uint32_t owner, uint32_t stage, uint32_t tries)
@@ -319,7 +319,7 @@ static int is_due(uint32_t stage, uint32_t queue, uint32_t index, uint32_t code,
     store(RAISE, stage, queue, 0xB0000004u, 3);
     if (stage == R4)
         expected.old = 0xB0000004u;
-    return is_same(evtchn_fifo_due(domain, sizeof domain), expected);
+    return is_same(evtchn_fifo_bytes_due(domain, sizeof domain), expected);
 }
 
 /* the tail's word; word 0 for a queue above 15, which has no tail and gets none */
@@ -333,7 +333,7 @@ static void stored_dues(void)
         CHECK(is_due(R4, queues[k], tail, 0x150, 0xA0000009u));
         CHECK(is_due(SET_BUSY, queues[k], tail, 0x120, BUSY));
         CHECK(is_due(CLEAR_BUSY, queues[k], tail, 0x130, ~BUSY));
-        CHECK(evtchn_fifo_reply(domain, sizeof domain, ledger, sizeof ledger, 0).code == EVTCHN_FIFO_LINK_ABANDONED);
+        CHECK(evtchn_fifo_bytes_reply(domain, sizeof domain, ledger, sizeof ledger, 0).code == EVTCHN_FIFO_LINK_ABANDONED);
         CHECK(get(domain, TAILS + 4 * QUEUE) == (queues[k] == QUEUE ? PORT : TAIL));
     }
     CHECK(is_due(CLEAR_BUSY + 1, QUEUE, 0, EVTCHN_FIFO_NO_CALL, 0) && is_due(0xFFFFFFFFu, QUEUE, 0, EVTCHN_FIFO_NO_CALL, 0));
@@ -344,9 +344,9 @@ static void last_count(void)
 {
     store(RAISE, R4, QUEUE, 0xA0000000u, 1);
     put(domain, COUNT, 0xFFFFFFFFu);
-    CHECK(evtchn_fifo_reply(domain, sizeof domain, ledger, sizeof ledger, 0xE0000000u).code == 0x120 && get(domain, COUNT) == 0xFFFFFFFFu);
-    CHECK(evtchn_fifo_reply(domain, sizeof domain, ledger, sizeof ledger, 0).code == 0x130 && get(domain, COUNT) == 0xFFFFFFFFu);
-    CHECK(evtchn_fifo_reply(domain, sizeof domain, ledger, sizeof ledger, 0).code == 0x112 && get(domain, COUNT) == 0xFFFFFFFFu);
+    CHECK(evtchn_fifo_bytes_reply(domain, sizeof domain, ledger, sizeof ledger, 0xE0000000u).code == 0x120 && get(domain, COUNT) == 0xFFFFFFFFu);
+    CHECK(evtchn_fifo_bytes_reply(domain, sizeof domain, ledger, sizeof ledger, 0).code == 0x130 && get(domain, COUNT) == 0xFFFFFFFFu);
+    CHECK(evtchn_fifo_bytes_reply(domain, sizeof domain, ledger, sizeof ledger, 0).code == 0x112 && get(domain, COUNT) == 0xFFFFFFFFu);
 }
 
 int main(void)

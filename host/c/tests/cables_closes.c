@@ -21,8 +21,8 @@ static result plain(call *f)
     uint8_t *record = in_copy(in.records[HERE].bytes), *ledger = in_copy(in.ledgers[HERE].bytes);
     size_t length = in.records[HERE].length, ledger_length = in.ledgers[HERE].length;
     if (f == close)
-        return evtchn_fifo_close(record, length, ledger, ledger_length, in.ports[HERE]);
-    return evtchn_fifo_reply(record, length, ledger, ledger_length, in.seen);
+        return evtchn_fifo_bytes_close(record, length, ledger, ledger_length, in.ports[HERE]);
+    return evtchn_fifo_bytes_reply(record, length, ledger, ledger_length, in.seen);
 }
 
 /* Gives and leaves what it does without cables; and the table is the copy's. */
@@ -73,7 +73,7 @@ static void close_inside(void)
     CHECK(entry_of(&memory, HERE, 2000)[0] == 0x77 && entry_of(&memory, HERE, 2000)[1] == 0xFC);
     REFUSED(reply, 16);
     REFUSED(send, 4);
-    CHECK(evtchn_fifo_bind(LENT_HERE, in.ports[HERE]).code == 0x100);
+    CHECK(evtchn_fifo_bytes_bind(LENT_HERE, in.ports[HERE]).code == 0x100);
     in.seen = 0;
     CHECK(does(reply, 0, NO_SLOT));
     REFUSED(send, 26);
@@ -123,7 +123,7 @@ static void flight_row(void)
     turn();
     CHECK(sends(3, 2000, 4));
     keep();
-    CHECK(is_same(evtchn_fifo_raise(LENT(in.records[THERE]), LENT(in.ledgers[THERE]), 2000), result_of(15, 0, 0, 0)) && is_kept());
+    CHECK(is_same(evtchn_fifo_bytes_raise(LENT(in.records[THERE]), LENT(in.ledgers[THERE]), 2000), result_of(15, 0, 0, 0)) && is_kept());
     CHECK(cuts(4));
     turn();
     CHECK(lays(0, HERE_END, THERE_END));
@@ -298,13 +298,13 @@ static evtchn_fifo_next close_at(uint32_t number, uint32_t port)
 /* A send that finds this port of the other domain, and its raise on an empty queue; the event is served. */
 static int comes_through(uint32_t number, uint32_t port, uint32_t far_port)
 {
-    evtchn_cables_far far = evtchn_cables_send_from(&cables, end_at(number, port), 0);
+    evtchn_cables_far far = evtchn_cables_send(&cables, end_at(number, port), 0);
     world *w = &worlds[1 - number];
     evtchn_fifo_next next;
     if (far.code != 0 || far.domain != 1 - number || far.port != far_port || far.slot != 0)
         return 0;
     next = run(far.domain, world_raise_start(w, far.port));
-    return is_same(next, result_of(1, 0, 4, 0)) && w->page[far_port] == 0xA0000000u && w->control[0] == 0x80 && w->control[9] == far_port &&
+    return is_same(next, result_of(1, 0, 4, 0)) && w->page[far_port] == 0xA0000000u && w->control.ready == 0x80 && w->control.head[7] == far_port &&
            is_same(world_service(w), result_of(19, far_port, 5, 0)) && w->page[far_port] == 0;
 }
 
@@ -329,15 +329,15 @@ static void typed_rows(void)
 {
     evtchn_cables_laid laid;
     begin_worlds();
-    laid = evtchn_cables_join(&cables, end_at(0, 5), end_at(1, 9));
+    laid = evtchn_cables_lay(&cables, end_at(0, 5), end_at(1, 9));
     CHECK(laid.code == 0 && laid.slot == 0);
     CHECK(get(cables.bytes, 0) == 5 && get(cables.bytes, 4) == 1048585u);
     CHECK(comes_through(0, 5, 9));
     CHECK(comes_through(1, 9, 5));
     CHECK(comes_through(0, 5, 9));
-    CHECK(evtchn_cables_part(&cables, end_at(1, 9)) == 0 && is_table_empty());
-    CHECK(evtchn_cables_part(&cables, end_at(0, 5)) == 26);
-    CHECK(evtchn_cables_send_from(&cables, end_at(0, 5), EVTCHN_CABLES_NO_HINT).code == 26);
+    CHECK(evtchn_cables_cut(&cables, end_at(1, 9)) == 0 && is_table_empty());
+    CHECK(evtchn_cables_cut(&cables, end_at(0, 5)) == 26);
+    CHECK(evtchn_cables_send(&cables, end_at(0, 5), EVTCHN_CABLES_NO_HINT).code == 26);
 }
 
 /* A close to its answer; where its access is not mapped, another run goes on with it. */
@@ -345,7 +345,7 @@ static void typed_close_row(void)
 {
     evtchn_fifo_next next;
     begin_worlds();
-    evtchn_cables_join(&cables, end_at(0, 5), end_at(1, 9));
+    CHECK(evtchn_cables_lay(&cables, end_at(0, 5), end_at(1, 9)).code == 0);
     worlds[0].page[5] = 0xFFFFFFFFu;
     worlds[0].shared.words = 5;
     next = run(0, close_at(0, 5));
@@ -354,9 +354,9 @@ static void typed_close_row(void)
     worlds[0].shared.words = EVTCHN_FIFO_PAGE_WORDS;
     next = run(0, next);
     CHECK(is_same(next, result_of(0, 0, 1, 0)) && is_table_empty() && worlds[0].page[5] == 0x7FFFFFFFu);
-    CHECK(evtchn_cables_send_from(&cables, end_at(1, 9), 0).code == 26);
-    CHECK(evtchn_cables_send_from(&cables, end_at(0, 5), 0).code == 4);
-    CHECK(evtchn_cables_join(&cables, end_at(0, 5), end_at(1, 9)).code == 4);
+    CHECK(evtchn_cables_send(&cables, end_at(1, 9), 0).code == 26);
+    CHECK(evtchn_cables_send(&cables, end_at(0, 5), 0).code == 4);
+    CHECK(evtchn_cables_lay(&cables, end_at(0, 5), end_at(1, 9)).code == 4);
     next = close_at(1, 9);
     CHECK(next.code == 0x130 && is_same(evtchn_cables_domain_reply(&cables, 1, &worlds[1].domain, worlds[1].ledger, WORLD_ENTRIES, 0),
                                         result_of(0, 0, 1, 0)));

@@ -125,24 +125,24 @@ static inline result result_of(uint32_t code, uint32_t second, uint32_t third, u
 
 static inline result lay(void)
 {
-    evtchn_cables_laid laid = evtchn_cables_lay(LENT(in.table), LENT_HERE, LENT(in.records[THERE]), LENT(in.ledgers[THERE]),
+    evtchn_cables_laid laid = evtchn_cables_bytes_lay(LENT(in.table), LENT_HERE, LENT(in.records[THERE]), LENT(in.ledgers[THERE]),
                                                 in.numbers[HERE], in.ports[HERE], in.numbers[THERE], in.ports[THERE]);
     return result_of(laid.code, laid.slot, 0, 0);
 }
 
 static inline result cut(void)
 {
-    return result_of(evtchn_cables_cut(LENT(in.table), LENT_HERE, in.numbers[HERE], in.ports[HERE]), 0, 0, 0);
+    return result_of(evtchn_cables_bytes_cut(LENT(in.table), LENT_HERE, in.numbers[HERE], in.ports[HERE]), 0, 0, 0);
 }
 
 static inline result send(void)
 {
-    evtchn_cables_far far = evtchn_cables_send(LENT(in.table), LENT_HERE, in.numbers[HERE], in.ports[HERE], in.hint);
+    evtchn_cables_far far = evtchn_cables_bytes_send(LENT(in.table), LENT_HERE, in.numbers[HERE], in.ports[HERE], in.hint);
     return result_of(far.code, far.domain, far.port, far.slot);
 }
 
-static inline result close(void) { return evtchn_cables_close(LENT(in.table), LENT_HERE, in.numbers[HERE], in.ports[HERE]); }
-static inline result reply(void) { return evtchn_cables_reply(LENT(in.table), LENT_HERE, in.numbers[HERE], in.seen); }
+static inline result close(void) { return evtchn_cables_bytes_close(LENT(in.table), LENT_HERE, in.numbers[HERE], in.ports[HERE]); }
+static inline result reply(void) { return evtchn_cables_bytes_reply(LENT(in.table), LENT_HERE, in.numbers[HERE], in.seen); }
 
 /* ---- what a call gives, and what it leaves ---- */
 

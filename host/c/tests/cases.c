@@ -51,7 +51,7 @@ static void c1_to_c7(void)
     title("C1");
     CHECK(answers(world_bind(&w, 5), 0, 1));
     CHECK(answers(world_raise(&w, 5), 1, 4));
-    CHECK(w.ledger[5] == 0x0377 && world_tail(&w, 7) == 5 && w.page[5] == 0xA0000000u && w.control[0] == 0x80);
+    CHECK(w.ledger[5] == 0x0377 && world_tail(&w, 7) == 5 && w.page[5] == 0xA0000000u && w.control.ready == 0x80);
     title("C2");
     CHECK(answers(world_bind(&w, 9), 0, 1));
     CHECK(answers(world_raise(&w, 9), 0, 4));
@@ -70,7 +70,7 @@ static void c1_to_c7(void)
     CHECK(answers(world_service(&w), 20, 1));
     title("C7");
     CHECK(answers(world_raise(&w, 9), 1, 4));
-    CHECK(w.control[2 + 7] == 9 && w.control[0] == 0x80);
+    CHECK(w.control.head[7] == 9 && w.control.ready == 0x80);
 }
 
 static void c8(void)

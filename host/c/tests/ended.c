@@ -82,12 +82,12 @@ static void check_call(const ended_call *call)
     entries[2 * PORT] = (uint8_t)call->after;
     entries[2 * PORT + 1] = (uint8_t)(call->after >> 8);
 
-    next = evtchn_fifo_reply(domain, sizeof domain, ledger, sizeof ledger, call->seen);
+    next = evtchn_fifo_bytes_reply(domain, sizeof domain, ledger, sizeof ledger, call->seen);
     CHECK(next.code == call->answer && next.index == 0 && next.value == ACCESSES && next.old == 0);
     CHECK(memcmp(domain, expected, sizeof domain) == 0);
     CHECK(memcmp(ledger, entries, sizeof ledger) == 0);
-    CHECK(evtchn_fifo_due(domain, sizeof domain).code == EVTCHN_FIFO_NO_CALL);
-    CHECK(evtchn_fifo_reply(domain, sizeof domain, ledger, sizeof ledger, 0).code == EVTCHN_FIFO_NO_CALL);
+    CHECK(evtchn_fifo_bytes_due(domain, sizeof domain).code == EVTCHN_FIFO_NO_CALL);
+    CHECK(evtchn_fifo_bytes_reply(domain, sizeof domain, ledger, sizeof ledger, 0).code == EVTCHN_FIFO_NO_CALL);
     CHECK(memcmp(domain, expected, sizeof domain) == 0);
 }
 
@@ -122,11 +122,11 @@ static void check_service(const ended_service *service)
     put(expected, READY, service->ready_after);
     put(expected, SERVICE_STAGE, 0);
 
-    next = evtchn_fifo_service_reply(guest, sizeof guest, service->seen);
+    next = evtchn_fifo_bytes_service_reply(guest, sizeof guest, service->seen);
     CHECK(next.code == service->answer && next.index == service->index && next.value == ACCESSES && next.old == 0);
     CHECK(memcmp(guest, expected, sizeof guest) == 0);
-    CHECK(evtchn_fifo_service_due(guest, sizeof guest).code == EVTCHN_FIFO_NO_CALL);
-    CHECK(evtchn_fifo_service_reply(guest, sizeof guest, PENDING).code == EVTCHN_FIFO_NO_CALL);
+    CHECK(evtchn_fifo_bytes_service_due(guest, sizeof guest).code == EVTCHN_FIFO_NO_CALL);
+    CHECK(evtchn_fifo_bytes_service_reply(guest, sizeof guest, PENDING).code == EVTCHN_FIFO_NO_CALL);
     CHECK(memcmp(guest, expected, sizeof guest) == 0);
 }
 
@@ -157,11 +157,11 @@ static void check_clear(const ended_clear *clear)
     memcpy(expected, guest, sizeof guest);
     put(expected, CLEAR_STAGE, 0);
 
-    next = evtchn_fifo_service_reply(guest, sizeof guest, clear->seen);
+    next = evtchn_fifo_bytes_service_reply(guest, sizeof guest, clear->seen);
     CHECK(next.code == clear->answer && next.index == 0 && next.value == ACCESSES && next.old == 0);
     CHECK(memcmp(guest, expected, sizeof guest) == 0);
-    CHECK(evtchn_fifo_service_due(guest, sizeof guest).code == EVTCHN_FIFO_NO_CALL);
-    CHECK(evtchn_fifo_service_reply(guest, sizeof guest, PENDING).code == EVTCHN_FIFO_NO_CALL);
+    CHECK(evtchn_fifo_bytes_service_due(guest, sizeof guest).code == EVTCHN_FIFO_NO_CALL);
+    CHECK(evtchn_fifo_bytes_service_reply(guest, sizeof guest, PENDING).code == EVTCHN_FIFO_NO_CALL);
     CHECK(memcmp(guest, expected, sizeof guest) == 0);
 }
 

@@ -47,6 +47,13 @@ static void finish_guest(void)
         continue;
 }
 
+/* Begins a service, which nothing refuses where none is under way. */
+static void start_service(void)
+{
+    if (!evtchn_fifo_is_access(evtchn_fifo_guest_service(&w.guest)))
+        CHECK(!"a service is refused");
+}
+
 static void make(change what)
 {
     int k;
@@ -55,7 +62,7 @@ static void make(change what)
     case FINISH: finish_guest(); break; /* G4, where a service is to make it */
     case UNLINK:                        /* a service up to G2 */
         finish_guest();
-        evtchn_fifo_guest_service(&w.guest);
+        start_service();
         for (k = 0; k < 3; k++)
             guest_access();
         break;
@@ -78,7 +85,7 @@ static void prepare(int closed)
         world_close(&w, TAIL);
         world_mask(&w, TAIL);
     }
-    evtchn_fifo_guest_service(&w.guest);
+    start_service();
     for (k = 0; k < (closed ? 2 : 4); k++)
         guest_access();
     if (!closed)

@@ -37,7 +37,8 @@ enum mask_stage { MASK, READ, CLEAR, CALL, CALLED, CHANGED };
 typedef struct state {
     evtchn_fifo_domain domain;
     uint16_t ledger[WORDS + 1];
-    uint32_t control[EVTCHN_FIFO_CONTROL_WORDS], words[WORDS];
+    evtchn_fifo_control control;
+    uint32_t words[WORDS];
     uint32_t caller; /* of the hypervisor's call under way */
     uint32_t raised; /* whether the scene's raise has started */
     uint32_t inside; /* whether no mask change fell outside it */
@@ -86,7 +87,7 @@ static void note(char side, evtchn_fifo_next next, uint32_t seen)
 static uint32_t perform(state *s, char side, evtchn_fifo_next next)
 {
     uint32_t *const pages[] = {s->words};
-    evtchn_fifo_shared shared = {s->control, pages, WORDS};
+    evtchn_fifo_shared shared = {&s->control, pages, WORDS};
     uint32_t seen = 0;
     if (!evtchn_fifo_perform(&shared, next, &seen))
         fail("an access is outside");

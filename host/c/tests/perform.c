@@ -12,16 +12,17 @@
 #define ENTRIES 32u
 
 static struct memory {
-    uint32_t control[EVTCHN_FIFO_CONTROL_WORDS], words[PAGES * EVTCHN_FIFO_PAGE_WORDS];
+    evtchn_fifo_control control;
+    uint32_t words[PAGES * EVTCHN_FIFO_PAGE_WORDS];
 } memory, copy;
 static uint32_t *const pages[PAGES] = {memory.words, memory.words + EVTCHN_FIFO_PAGE_WORDS};
-static evtchn_fifo_shared shared = {memory.control, pages, MAPPED};
+static evtchn_fifo_shared shared = {&memory.control, pages, MAPPED};
 
 static void fill(void)
 {
     uint32_t k;
     for (k = 0; k < EVTCHN_FIFO_CONTROL_WORDS; k++)
-        memory.control[k] = 0x5A5A0000u + k;
+        ((uint32_t *)&memory.control)[k] = 0x5A5A0000u + k;
     for (k = 0; k < PAGES * EVTCHN_FIFO_PAGE_WORDS; k++)
         memory.words[k] = 0xA5A50000u + k;
     copy = memory;
@@ -34,8 +35,8 @@ static uint32_t *place(uint32_t code, uint32_t index)
         return NULL;
     switch (code % 16) {
     case 0: return index < MAPPED ? copy.words + index : NULL;
-    case 1: return shared.control == NULL ? NULL : copy.control;
-    case 2: return index < 16 && shared.control != NULL ? copy.control + 2 + index : NULL;
+    case 1: return shared.control == NULL ? NULL : &copy.control.ready;
+    case 2: return index < 16 && shared.control != NULL ? &copy.control.head[index] : NULL;
     default: return NULL;
     }
 }
@@ -110,9 +111,9 @@ static void unmapped_runs(void)
     evtchn_fifo_domain_fresh(&domain);
     evtchn_fifo_guest_fresh(&guest);
     evtchn_fifo_ledger_fresh(ledger, ENTRIES);
-    evtchn_fifo_domain_init_control(&domain, 0, 0, 1, 0);
-    evtchn_fifo_domain_bind(&domain, ledger, ENTRIES, 5);
-    evtchn_fifo_domain_expand_array(&domain, 0, 1);
+    CHECK(evtchn_fifo_domain_init_control(&domain, 0, 0, 1, 0).code == 0);
+    CHECK(evtchn_fifo_domain_bind(&domain, ledger, ENTRIES, 5).code == 0);
+    CHECK(evtchn_fifo_domain_expand_array(&domain, 0, 1).code == 0);
     shared.words = 5;
     next = evtchn_fifo_domain_run(&domain, ledger, ENTRIES, &shared, evtchn_fifo_domain_raise(&domain, ledger, ENTRIES, 5));
     CHECK(next.code == 0x120 && next.index == 5 && next.value == 0x80000000u && memory.words[5] == 0);
@@ -121,9 +122,9 @@ static void unmapped_runs(void)
     next = evtchn_fifo_domain_run(&domain, ledger, ENTRIES, &shared, next);
     CHECK(next.code == 0x112 && next.index == 7 && next.value == 5 && memory.words[5] == 0xA0000000u);
     CHECK(evtchn_fifo_is_access(evtchn_fifo_guest_run(&guest, &shared, evtchn_fifo_guest_service(&guest))));
-    shared.control = memory.control;
+    shared.control = &memory.control;
     next = evtchn_fifo_domain_run(&domain, ledger, ENTRIES, &shared, next);
-    CHECK(next.code == 1 && next.value == 4 && memory.control[0] == 0x80 && memory.control[2 + 7] == 5);
+    CHECK(next.code == 1 && next.value == 4 && memory.control.ready == 0x80 && memory.control.head[7] == 5);
     next = evtchn_fifo_domain_run(&domain, ledger, ENTRIES, &shared, next);
     CHECK(next.code == 1 && next.value == 4);
 }
@@ -153,7 +154,7 @@ int main(void)
     codes();
     shared.control = NULL;
     codes();
-    shared.control = memory.control;
+    shared.control = &memory.control;
     unmapped_runs();
     unmapped_clear_mask();
     return check_end();

@@ -43,21 +43,21 @@ typedef evtchn_fifo_next call(void);
 #define GUEST guest, EVTCHN_FIFO_GUEST_SIZE + beyond
 #define LEDGER ledger, in.entries * 2 + beyond % 2
 
-static evtchn_fifo_next init_control(void) { return evtchn_fifo_init_control(DOMAIN, in.vcpu, in.frame, in.frames, in.offset); }
-static evtchn_fifo_next expand_array(void) { return evtchn_fifo_expand_array(DOMAIN, in.frame, in.frames); }
-static evtchn_fifo_next bind(void) { return evtchn_fifo_bind(DOMAIN, LEDGER, in.port); }
-static evtchn_fifo_next close(void) { return evtchn_fifo_close(DOMAIN, LEDGER, in.port); }
-static evtchn_fifo_next set_priority(void) { return evtchn_fifo_set_priority(DOMAIN, LEDGER, in.port, in.priority); }
-static evtchn_fifo_next raise(void) { return evtchn_fifo_raise(DOMAIN, LEDGER, in.port); }
-static evtchn_fifo_next unmask(void) { return evtchn_fifo_unmask(DOMAIN, LEDGER, in.port); }
-static evtchn_fifo_next reply(void) { return evtchn_fifo_reply(DOMAIN, LEDGER, in.seen); }
-static evtchn_fifo_next due(void) { return evtchn_fifo_due(DOMAIN); }
-static evtchn_fifo_next service(void) { return evtchn_fifo_service(GUEST); }
-static evtchn_fifo_next service_reply(void) { return evtchn_fifo_service_reply(GUEST, in.seen); }
-static evtchn_fifo_next service_due(void) { return evtchn_fifo_service_due(GUEST); }
+static evtchn_fifo_next init_control(void) { return evtchn_fifo_bytes_init_control(DOMAIN, in.vcpu, in.frame, in.frames, in.offset); }
+static evtchn_fifo_next expand_array(void) { return evtchn_fifo_bytes_expand_array(DOMAIN, in.frame, in.frames); }
+static evtchn_fifo_next bind(void) { return evtchn_fifo_bytes_bind(DOMAIN, LEDGER, in.port); }
+static evtchn_fifo_next close(void) { return evtchn_fifo_bytes_close(DOMAIN, LEDGER, in.port); }
+static evtchn_fifo_next set_priority(void) { return evtchn_fifo_bytes_set_priority(DOMAIN, LEDGER, in.port, in.priority); }
+static evtchn_fifo_next raise(void) { return evtchn_fifo_bytes_raise(DOMAIN, LEDGER, in.port); }
+static evtchn_fifo_next unmask(void) { return evtchn_fifo_bytes_unmask(DOMAIN, LEDGER, in.port); }
+static evtchn_fifo_next reply(void) { return evtchn_fifo_bytes_reply(DOMAIN, LEDGER, in.seen); }
+static evtchn_fifo_next due(void) { return evtchn_fifo_bytes_due(DOMAIN); }
+static evtchn_fifo_next service(void) { return evtchn_fifo_bytes_service(GUEST); }
+static evtchn_fifo_next service_reply(void) { return evtchn_fifo_bytes_service_reply(GUEST, in.seen); }
+static evtchn_fifo_next service_due(void) { return evtchn_fifo_bytes_service_due(GUEST); }
 static evtchn_fifo_next mask(void) { return evtchn_fifo_mask(in.port, in.words); }
-static evtchn_fifo_next clear_mask(void) { return evtchn_fifo_clear_mask(GUEST, in.port); }
-static evtchn_fifo_next tell(void) { return evtchn_fifo_tell(GUEST, in.words); }
+static evtchn_fifo_next clear_mask(void) { return evtchn_fifo_bytes_clear_mask(GUEST, in.port); }
+static evtchn_fifo_next tell(void) { return evtchn_fifo_bytes_tell(GUEST, in.words); }
 
 static void keep(void)
 {
@@ -334,7 +334,7 @@ static void guest_rows(void)
     CHECK(accepted(service_due).code == 0x141);
     REFUSED(service, 15);
     /* 18 by HEAD 0 and by HEAD outside, by H outside; it ends the service */
-    evtchn_fifo_fresh_guest(GUEST);
+    evtchn_fifo_bytes_fresh_guest(GUEST);
     in.words = 1024;
     CHECK(accepted(tell).code == 0);
     service();
@@ -357,9 +357,9 @@ static void guest_rows(void)
 }
 
 /* a record that is too short by a byte, or as long as one of layout 1 */
-static evtchn_fifo_next clear_mask_short(void) { return evtchn_fifo_clear_mask(guest, EVTCHN_FIFO_GUEST_SIZE - 1, in.port); }
-static evtchn_fifo_next clear_mask_shorter(void) { return evtchn_fifo_clear_mask(guest, 88, in.port); }
-static evtchn_fifo_next service_short(void) { return evtchn_fifo_service(guest, EVTCHN_FIFO_GUEST_SIZE - 1); }
+static evtchn_fifo_next clear_mask_short(void) { return evtchn_fifo_bytes_clear_mask(guest, EVTCHN_FIFO_GUEST_SIZE - 1, in.port); }
+static evtchn_fifo_next clear_mask_shorter(void) { return evtchn_fifo_bytes_clear_mask(guest, 88, in.port); }
+static evtchn_fifo_next service_short(void) { return evtchn_fifo_bytes_service(guest, EVTCHN_FIFO_GUEST_SIZE - 1); }
 
 /* 64, 15 by either stage, 3, 6; a service under way does not refuse it */
 static void clear_mask_row(void)

@@ -39,8 +39,8 @@ static uint8_t *guarded(size_t size)
 /* what R2's reply gives where the tail of queue 7 is this one, in an array of so many pages */
 static evtchn_fifo_next after_r2(uint32_t pages, uint32_t entry, uint32_t tail)
 {
-    evtchn_fifo_fresh_domain(domain, EVTCHN_FIFO_DOMAIN_SIZE);
-    evtchn_fifo_fresh_ledger(ledger, LEDGER_SIZE);
+    evtchn_fifo_bytes_fresh_domain(domain, EVTCHN_FIFO_DOMAIN_SIZE);
+    evtchn_fifo_bytes_fresh_ledger(ledger, LEDGER_SIZE);
     put(domain, PAGES, pages);
     put(domain, TAIL_7, tail);
     put(domain, OWNER, RAISE);
@@ -49,7 +49,7 @@ static evtchn_fifo_next after_r2(uint32_t pages, uint32_t entry, uint32_t tail)
     put(domain, COUNT, 2);
     ledger[2 * PORT] = (uint8_t)entry;
     ledger[2 * PORT + 1] = (uint8_t)(entry >> 8);
-    return evtchn_fifo_reply(domain, EVTCHN_FIFO_DOMAIN_SIZE, ledger, LEDGER_SIZE, PENDING);
+    return evtchn_fifo_bytes_reply(domain, EVTCHN_FIFO_DOMAIN_SIZE, ledger, LEDGER_SIZE, PENDING);
 }
 
 static int is_access(evtchn_fifo_next next, unsigned kind, unsigned place, uint32_t index)
@@ -61,7 +61,7 @@ static int is_access(evtchn_fifo_next next, unsigned kind, unsigned place, uint3
 /* R3: the tail is read, and stays */
 static int reads(uint32_t pages, uint32_t tail)
 {
-    evtchn_fifo_next next = after_r2(pages, LINKED_ON_7, tail), due = evtchn_fifo_due(domain, EVTCHN_FIFO_DOMAIN_SIZE);
+    evtchn_fifo_next next = after_r2(pages, LINKED_ON_7, tail), due = evtchn_fifo_bytes_due(domain, EVTCHN_FIFO_DOMAIN_SIZE);
     return is_access(next, EVTCHN_FIFO_READ, EVTCHN_FIFO_WORD, tail) && is_access(due, EVTCHN_FIFO_READ, EVTCHN_FIFO_WORD, tail) &&
            get(domain, TAIL_7) == tail;
 }

@@ -456,7 +456,7 @@ static void refusals_under_way(void)
     CHECK(wrote("X\tcall\traise\t5\t-\t-\nX\tcall\tbind\t9\t-\t-\nX\tanswer\t15\t-\t-\t-\nX\tor\tw5\t-\t80000000\tA0000000\nX\tanswer\t0\t-\t-\t-\n"));
     next = service_start();
     CHECK(service() == 15 && wrote("G\tcall\tservice\t-\t-\t-\nG\tcall\tservice\t-\t-\t-\nG\tanswer\t15\t-\t-\t-\n"));
-    w.control[2 + 7] = 1024;
+    w.control.head[7] = 1024;
     CHECK(evtchn_fifo_trace_guest_run(&trace, &w.guest, &w.shared, next).code == 18);
     CHECK(wrote("G\tswap\tready\t-\t00000000\t00000080\nG\tread\th7\t-\t-\t00000400\nG\tanswer\t18\t-\t-\t-\n"));
     close(5);
@@ -626,14 +626,14 @@ static void without_trace(void)
     CHECK(evtchn_fifo_trace_set_priority(NULL, &w.domain, w.ledger, WORLD_ENTRIES, 5, 3).code == 0);
     next = evtchn_fifo_trace_raise(NULL, &w.domain, w.ledger, WORLD_ENTRIES, 5);
     next = evtchn_fifo_trace_domain_run(NULL, &w.domain, w.ledger, WORLD_ENTRIES, &w.shared, next);
-    CHECK(next.code == 1 && next.value == 4 && w.control[0] == 8);
+    CHECK(next.code == 1 && next.value == 4 && w.control.ready == 8);
     next = evtchn_fifo_trace_guest_run(NULL, &w.guest, &w.shared, evtchn_fifo_trace_service(NULL, &w.guest));
     CHECK(next.code == 19 && next.index == 5 && next.value == 5);
     next = evtchn_fifo_trace_mask(NULL, &w.shared, 5, EVTCHN_FIFO_PAGE_WORDS);
     CHECK(next.code == 0 && next.value == 1 && w.page[5] == 0x40000000u);
     next = evtchn_fifo_trace_guest_run(NULL, &w.guest, &w.shared, evtchn_fifo_trace_clear_mask(NULL, &w.guest, 5));
     CHECK(next.code == 0 && next.value == 2 && w.page[5] == 0);
-    evtchn_fifo_trace_mask(NULL, &w.shared, 5, EVTCHN_FIFO_PAGE_WORDS);
+    CHECK(evtchn_fifo_trace_mask(NULL, &w.shared, 5, EVTCHN_FIFO_PAGE_WORDS).code == 0);
     next = evtchn_fifo_trace_unmask(NULL, &w.domain, w.ledger, WORLD_ENTRIES, 5);
     CHECK(evtchn_fifo_trace_domain_run(NULL, &w.domain, w.ledger, WORLD_ENTRIES, &w.shared, next).code == 0 && w.page[5] == 0);
     next = evtchn_fifo_trace_close(NULL, &w.domain, w.ledger, WORLD_ENTRIES, 5);
@@ -653,8 +653,8 @@ static void to_a_file(void)
         return;
     world_fresh(&w);
     evtchn_fifo_trace_header(&written);
-    evtchn_fifo_trace_init_control(&written, &w.domain, 0, 1, 1024, 0);
-    evtchn_fifo_trace_expand_array(&written, &w.domain, 1, 1024);
+    CHECK(evtchn_fifo_trace_init_control(&written, &w.domain, 0, 1, 1024, 0).code == 0);
+    CHECK(evtchn_fifo_trace_expand_array(&written, &w.domain, 1, 1024).code == 0);
     rewind(file);
     length = fread(text, 1, sizeof text, file);
     CHECK(length == strlen(prologue) && memcmp(text, prologue, length) == 0);

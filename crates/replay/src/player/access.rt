@@ -20,11 +20,11 @@ use crate::player::due::put_answer;
 use crate::player::named::access_in;
 use crate::player::named::is_answer;
 use calls::types::Access;
-use evtchn_fifo::clear_mask::evtchn_fifo_service_due;
-use evtchn_fifo::clear_mask::evtchn_fifo_service_reply;
+use evtchn_fifo::clear_mask::evtchn_fifo_bytes_service_due;
+use evtchn_fifo::clear_mask::evtchn_fifo_bytes_service_reply;
 use evtchn_fifo::encoded::PackedNext;
-use evtchn_fifo::hypervisor::evtchn_fifo_due;
-use evtchn_fifo::hypervisor::evtchn_fifo_reply;
+use evtchn_fifo::hypervisor::evtchn_fifo_bytes_due;
+use evtchn_fifo::hypervisor::evtchn_fifo_bytes_reply;
 use log::event::access_line;
 use log::line::put_line;
 use log::text::starts_as;
@@ -66,14 +66,14 @@ pub(crate) fn hypervisor_access(
     requires { ⌜ (domainSize ≤ length (now domain)) × (length (now due) ≡ 64) ⌝ }
     ensures { λ r. ⌜ ((g : List ℕ) → guestSize ≤ length g → playerAt r (now (due .exit)) (worldIn (now (domain .exit)) (now (ledger .exit)) g (now (words .exit)) (now (block .exit))) ≡ made linkBits (worldIn (now (domain .entry)) (now (ledger .entry)) g (now (words .entry)) (now (block .entry))) lines Side.Hypervisor (now (text .entry))) ⌝ }
 {
-    let named = evtchn_fifo_due(domain);
+    let named = evtchn_fifo_bytes_due(domain);
     let idle = is_answer(named);
     if idle {
         return miss(0, lines, text);
     }
     let access = access_in(named);
     let seen = perform(words, block, access);
-    let next = evtchn_fifo_reply(domain, ledger, seen);
+    let next = evtchn_fifo_bytes_reply(domain, ledger, seen);
     meet_access(due, Side::Hypervisor, access, seen, next, lines, text)
 }
 
@@ -88,13 +88,13 @@ pub(crate) fn guest_access(
     requires { ⌜ (guestSize ≤ length (now guest)) × (length (now due) ≡ 64) ⌝ }
     ensures { λ r. ⌜ ((d t : List ℕ) → domainSize ≤ length d → playerAt r (now (due .exit)) (worldIn d t (now (guest .exit)) (now (words .exit)) (now (block .exit))) ≡ made linkBits (worldIn d t (now (guest .entry)) (now (words .entry)) (now (block .entry))) lines Side.Guest (now (text .entry))) ⌝ }
 {
-    let named = evtchn_fifo_service_due(guest);
+    let named = evtchn_fifo_bytes_service_due(guest);
     let idle = is_answer(named);
     if idle {
         return miss(0, lines, text);
     }
     let access = access_in(named);
     let seen = perform(words, block, access);
-    let next = evtchn_fifo_service_reply(guest, seen);
+    let next = evtchn_fifo_bytes_service_reply(guest, seen);
     meet_access(due, Side::Guest, access, seen, next, lines, text)
 }

@@ -22,20 +22,20 @@ use crate::player::due::stopped;
 use crate::player::named::access_in;
 use crate::player::named::code_in;
 use crate::player::named::is_answer;
-use evtchn_fifo::clear_mask::evtchn_fifo_clear_mask;
+use evtchn_fifo::clear_mask::evtchn_fifo_bytes_clear_mask;
 use evtchn_fifo::domain_record::pages_in;
 use evtchn_fifo::encoded::PackedNext;
+use evtchn_fifo::guest::evtchn_fifo_bytes_service;
+use evtchn_fifo::guest::evtchn_fifo_bytes_tell;
 use evtchn_fifo::guest::evtchn_fifo_mask;
-use evtchn_fifo::guest::evtchn_fifo_service;
-use evtchn_fifo::guest::evtchn_fifo_tell;
 use evtchn_fifo::guest_record::words_in;
-use evtchn_fifo::hypervisor::evtchn_fifo_bind;
-use evtchn_fifo::hypervisor::evtchn_fifo_close;
-use evtchn_fifo::hypervisor::evtchn_fifo_expand_array;
-use evtchn_fifo::hypervisor::evtchn_fifo_init_control;
-use evtchn_fifo::hypervisor::evtchn_fifo_raise;
-use evtchn_fifo::hypervisor::evtchn_fifo_set_priority;
-use evtchn_fifo::hypervisor::evtchn_fifo_unmask;
+use evtchn_fifo::hypervisor::evtchn_fifo_bytes_bind;
+use evtchn_fifo::hypervisor::evtchn_fifo_bytes_close;
+use evtchn_fifo::hypervisor::evtchn_fifo_bytes_expand_array;
+use evtchn_fifo::hypervisor::evtchn_fifo_bytes_init_control;
+use evtchn_fifo::hypervisor::evtchn_fifo_bytes_raise;
+use evtchn_fifo::hypervisor::evtchn_fifo_bytes_set_priority;
+use evtchn_fifo::hypervisor::evtchn_fifo_bytes_unmask;
 use log::event::access_line;
 use log::line::Line;
 use log::line::LoggedCall;
@@ -69,7 +69,7 @@ fn expand(
     ensures { λ r. ⌜ ((t b : List ℕ) → playerAt r (now (due .exit)) (worldIn (now (domain .exit)) t (now (guest .exit)) (now (words .exit)) b) ≡ begins linkBits (worldIn (now (domain .entry)) t (now (guest .entry)) (now (words .entry)) b) lines (LoggedCall.ExpandArray frame)) ⌝ }
 {
     let pages = pages_in(domain);
-    let next = evtchn_fifo_expand_array(domain, frame as u64, 1024);
+    let next = evtchn_fifo_bytes_expand_array(domain, frame as u64, 1024);
     let code = code_in(next);
     let added = code.number == 0;
     if added {
@@ -79,7 +79,7 @@ fn expand(
         }
         zero_page(words, pages);
         let more = pages_in(domain);
-        evtchn_fifo_tell(guest, 1024 * (more as u64));
+        evtchn_fifo_bytes_tell(guest, 1024 * (more as u64));
         return began(due, Side::Hypervisor, next, lines);
     }
     began(due, Side::Hypervisor, next, lines)
@@ -114,7 +114,7 @@ fn service(guest: &mut [u8], due: &mut [u8], lines: u64) -> Position
     requires { ⌜ (guestSize ≤ length (now guest)) × (length (now due) ≡ 64) ⌝ }
     ensures { λ r. ⌜ ((d t ws b : List ℕ) → domainSize ≤ length d → playerAt r (now (due .exit)) (worldIn d t (now (guest .exit)) ws b) ≡ begins linkBits (worldIn d t (now (guest .entry)) ws b) lines LoggedCall.Service) ⌝ }
 {
-    let next = evtchn_fifo_service(guest);
+    let next = evtchn_fifo_bytes_service(guest);
     began(due, Side::Guest, next, lines)
 }
 
@@ -122,7 +122,7 @@ fn clear_mask(guest: &mut [u8], due: &mut [u8], port: Port, lines: u64) -> Posit
     requires { ⌜ (guestSize ≤ length (now guest)) × (length (now due) ≡ 64) × LegalCall (LoggedCall.ClearMask port) ⌝ }
     ensures { λ r. ⌜ ((d t ws b : List ℕ) → domainSize ≤ length d → playerAt r (now (due .exit)) (worldIn d t (now (guest .exit)) ws b) ≡ begins linkBits (worldIn d t (now (guest .entry)) ws b) lines (LoggedCall.ClearMask port)) ⌝ }
 {
-    let next = evtchn_fifo_clear_mask(guest, port.0 as u64);
+    let next = evtchn_fifo_bytes_clear_mask(guest, port.0 as u64);
     began(due, Side::Guest, next, lines)
 }
 
@@ -143,7 +143,7 @@ fn begin(
     let side = Side::Hypervisor;
     match call {
         LoggedCall::InitControl(vcpu, frame, offset) => {
-            let next = evtchn_fifo_init_control(
+            let next = evtchn_fifo_bytes_init_control(
                 domain,
                 vcpu as u64,
                 frame as u64,
@@ -154,23 +154,28 @@ fn begin(
         }
         LoggedCall::ExpandArray(frame) => expand(domain, guest, words, due, frame, lines),
         LoggedCall::Bind(port) => {
-            let next = evtchn_fifo_bind(domain, ledger, port.0 as u64);
+            let next = evtchn_fifo_bytes_bind(domain, ledger, port.0 as u64);
             began(due, side, next, lines)
         }
         LoggedCall::Close(port) => {
-            let next = evtchn_fifo_close(domain, ledger, port.0 as u64);
+            let next = evtchn_fifo_bytes_close(domain, ledger, port.0 as u64);
             began(due, side, next, lines)
         }
         LoggedCall::SetPriority(port, priority) => {
-            let next = evtchn_fifo_set_priority(domain, ledger, port.0 as u64, priority.0 as u64);
+            let next = evtchn_fifo_bytes_set_priority(
+                domain,
+                ledger,
+                port.0 as u64,
+                priority.0 as u64,
+            );
             began(due, side, next, lines)
         }
         LoggedCall::Raise(port) => {
-            let next = evtchn_fifo_raise(domain, ledger, port.0 as u64);
+            let next = evtchn_fifo_bytes_raise(domain, ledger, port.0 as u64);
             began(due, side, next, lines)
         }
         LoggedCall::Unmask(port) => {
-            let next = evtchn_fifo_unmask(domain, ledger, port.0 as u64);
+            let next = evtchn_fifo_bytes_unmask(domain, ledger, port.0 as u64);
             began(due, side, next, lines)
         }
         LoggedCall::Service => service(guest, due, lines),

@@ -59,7 +59,7 @@ pub struct End<'a> {
 pub fn lay(table: &mut [u8], near: End<'_>, far: End<'_>) -> Laid {
     // SAFETY: the slices are lent for the call; the table overlaps none of the others.
     unsafe {
-        raw::evtchn_cables_lay(
+        raw::evtchn_cables_bytes_lay(
             table.as_mut_ptr(),
             table.len(),
             near.record.as_ptr(),
@@ -83,7 +83,7 @@ pub fn lay(table: &mut [u8], near: End<'_>, far: End<'_>) -> Laid {
 pub fn cut(table: &mut [u8], near: End<'_>) -> u32 {
     // SAFETY: the slices are lent for the call; the table overlaps none of the others.
     unsafe {
-        raw::evtchn_cables_cut(
+        raw::evtchn_cables_bytes_cut(
             table.as_mut_ptr(),
             table.len(),
             near.record.as_ptr(),
@@ -101,7 +101,7 @@ pub fn cut(table: &mut [u8], near: End<'_>) -> u32 {
 pub fn send(table: &[u8], near: End<'_>, hint: u32) -> Far {
     // SAFETY: the slices are lent for the call.
     unsafe {
-        raw::evtchn_cables_send(
+        raw::evtchn_cables_bytes_send(
             table.as_ptr(),
             table.len(),
             near.record.as_ptr(),
@@ -128,7 +128,7 @@ pub fn close(
     let (entries, size) = (ledger.as_mut_ptr(), ledger.len());
     let (slots, bytes) = (table.as_mut_ptr(), table.len());
     // SAFETY: the slices are lent for the call and do not overlap.
-    unsafe { raw::evtchn_cables_close(slots, bytes, at, length, entries, size, number, port) }
+    unsafe { raw::evtchn_cables_bytes_close(slots, bytes, at, length, entries, size, number, port) }
 }
 
 /// The reply to the call under way of domain `number`.
@@ -144,7 +144,7 @@ pub fn reply(
     let (entries, size) = (ledger.as_mut_ptr(), ledger.len());
     let (slots, bytes) = (table.as_mut_ptr(), table.len());
     // SAFETY: the slices are lent for the call and do not overlap.
-    unsafe { raw::evtchn_cables_reply(slots, bytes, at, length, entries, size, number, seen) }
+    unsafe { raw::evtchn_cables_bytes_reply(slots, bytes, at, length, entries, size, number, seen) }
 }
 
 /// The slot that the bytes of a table have.

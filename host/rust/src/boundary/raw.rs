@@ -6,10 +6,10 @@ use super::replay::{Position, Report};
 
 extern "C" {
     pub fn evtchn_fifo_layout() -> u32;
-    pub fn evtchn_fifo_fresh_domain(domain: *mut u8, length: usize) -> u32;
-    pub fn evtchn_fifo_fresh_guest(guest: *mut u8, length: usize) -> u32;
-    pub fn evtchn_fifo_fresh_ledger(ledger: *mut u8, length: usize) -> u32;
-    pub fn evtchn_fifo_init_control(
+    pub fn evtchn_fifo_bytes_fresh_domain(domain: *mut u8, length: usize) -> u32;
+    pub fn evtchn_fifo_bytes_fresh_guest(guest: *mut u8, length: usize) -> u32;
+    pub fn evtchn_fifo_bytes_fresh_ledger(ledger: *mut u8, length: usize) -> u32;
+    pub fn evtchn_fifo_bytes_init_control(
         domain: *mut u8,
         domain_length: usize,
         vcpu: u64,
@@ -17,27 +17,27 @@ extern "C" {
         frames: u64,
         offset: u64,
     ) -> Encoded;
-    pub fn evtchn_fifo_expand_array(
+    pub fn evtchn_fifo_bytes_expand_array(
         domain: *mut u8,
         domain_length: usize,
         frame: u64,
         frames: u64,
     ) -> Encoded;
-    pub fn evtchn_fifo_bind(
+    pub fn evtchn_fifo_bytes_bind(
         domain: *mut u8,
         domain_length: usize,
         ledger: *mut u8,
         ledger_length: usize,
         port: u64,
     ) -> Encoded;
-    pub fn evtchn_fifo_close(
+    pub fn evtchn_fifo_bytes_close(
         domain: *mut u8,
         domain_length: usize,
         ledger: *mut u8,
         ledger_length: usize,
         port: u64,
     ) -> Encoded;
-    pub fn evtchn_fifo_set_priority(
+    pub fn evtchn_fifo_bytes_set_priority(
         domain: *mut u8,
         domain_length: usize,
         ledger: *mut u8,
@@ -45,34 +45,34 @@ extern "C" {
         port: u64,
         priority: u64,
     ) -> Encoded;
-    pub fn evtchn_fifo_raise(
+    pub fn evtchn_fifo_bytes_raise(
         domain: *mut u8,
         domain_length: usize,
         ledger: *mut u8,
         ledger_length: usize,
         port: u64,
     ) -> Encoded;
-    pub fn evtchn_fifo_unmask(
+    pub fn evtchn_fifo_bytes_unmask(
         domain: *mut u8,
         domain_length: usize,
         ledger: *mut u8,
         ledger_length: usize,
         port: u64,
     ) -> Encoded;
-    pub fn evtchn_fifo_reply(
+    pub fn evtchn_fifo_bytes_reply(
         domain: *mut u8,
         domain_length: usize,
         ledger: *mut u8,
         ledger_length: usize,
         seen: u32,
     ) -> Encoded;
-    pub fn evtchn_fifo_due(domain: *const u8, length: usize) -> Encoded;
-    pub fn evtchn_fifo_service(guest: *mut u8, length: usize) -> Encoded;
-    pub fn evtchn_fifo_service_reply(guest: *mut u8, length: usize, seen: u32) -> Encoded;
-    pub fn evtchn_fifo_service_due(guest: *const u8, length: usize) -> Encoded;
+    pub fn evtchn_fifo_bytes_due(domain: *const u8, length: usize) -> Encoded;
+    pub fn evtchn_fifo_bytes_service(guest: *mut u8, length: usize) -> Encoded;
+    pub fn evtchn_fifo_bytes_service_reply(guest: *mut u8, length: usize, seen: u32) -> Encoded;
+    pub fn evtchn_fifo_bytes_service_due(guest: *const u8, length: usize) -> Encoded;
     pub fn evtchn_fifo_mask(port: u64, words: u64) -> Encoded;
-    pub fn evtchn_fifo_clear_mask(guest: *mut u8, length: usize, port: u64) -> Encoded;
-    pub fn evtchn_fifo_tell(guest: *mut u8, length: usize, words: u64) -> Encoded;
+    pub fn evtchn_fifo_bytes_clear_mask(guest: *mut u8, length: usize, port: u64) -> Encoded;
+    pub fn evtchn_fifo_bytes_tell(guest: *mut u8, length: usize, words: u64) -> Encoded;
     pub fn evtchn_replay_start(
         domain: *mut u8,
         ledger: *mut u8,
@@ -98,7 +98,7 @@ extern "C" {
         text_length: usize,
     ) -> Position;
     pub fn evtchn_replay_report(position: Position) -> Report;
-    pub fn evtchn_cables_lay(
+    pub fn evtchn_cables_bytes_lay(
         table: *mut u8,
         table_length: usize,
         near: *const u8,
@@ -114,7 +114,7 @@ extern "C" {
         far_domain: u64,
         far_port: u64,
     ) -> Laid;
-    pub fn evtchn_cables_cut(
+    pub fn evtchn_cables_bytes_cut(
         table: *mut u8,
         table_length: usize,
         domain: *const u8,
@@ -124,7 +124,7 @@ extern "C" {
         number: u64,
         port: u64,
     ) -> u32;
-    pub fn evtchn_cables_send(
+    pub fn evtchn_cables_bytes_send(
         table: *const u8,
         table_length: usize,
         domain: *const u8,
@@ -135,7 +135,7 @@ extern "C" {
         port: u64,
         hint: u32,
     ) -> Far;
-    pub fn evtchn_cables_close(
+    pub fn evtchn_cables_bytes_close(
         table: *mut u8,
         table_length: usize,
         domain: *mut u8,
@@ -145,7 +145,7 @@ extern "C" {
         number: u64,
         port: u64,
     ) -> Encoded;
-    pub fn evtchn_cables_reply(
+    pub fn evtchn_cables_bytes_reply(
         table: *mut u8,
         table_length: usize,
         domain: *mut u8,
@@ -171,14 +171,14 @@ mod tests {
         // SAFETY: no bytes are lent.
         let given = unsafe {
             [
-                evtchn_fifo_raise(null_mut(), 0, null_mut(), 0, 5),
-                evtchn_fifo_reply(null_mut(), 0, null_mut(), 0, 0),
-                evtchn_fifo_due(null(), 0),
-                evtchn_fifo_service(null_mut(), 0),
-                evtchn_fifo_service_reply(null_mut(), 0, 0),
-                evtchn_fifo_service_due(null(), 0),
-                evtchn_fifo_clear_mask(null_mut(), 0, 5),
-                evtchn_fifo_tell(null_mut(), 0, 1024),
+                evtchn_fifo_bytes_raise(null_mut(), 0, null_mut(), 0, 5),
+                evtchn_fifo_bytes_reply(null_mut(), 0, null_mut(), 0, 0),
+                evtchn_fifo_bytes_due(null(), 0),
+                evtchn_fifo_bytes_service(null_mut(), 0),
+                evtchn_fifo_bytes_service_reply(null_mut(), 0, 0),
+                evtchn_fifo_bytes_service_due(null(), 0),
+                evtchn_fifo_bytes_clear_mask(null_mut(), 0, 5),
+                evtchn_fifo_bytes_tell(null_mut(), 0, 1024),
             ]
         };
         assert_eq!(given, [Encoded::TOO_SHORT; 8]);
@@ -190,8 +190,8 @@ mod tests {
         domain[0] = 1;
         // SAFETY: the record is lent, the ledger has no bytes.
         let given = unsafe {
-            assert_eq!(evtchn_fifo_fresh_ledger(null_mut(), 0), 0);
-            evtchn_fifo_raise(domain.as_mut_ptr(), domain.len(), null_mut(), 0, 5)
+            assert_eq!(evtchn_fifo_bytes_fresh_ledger(null_mut(), 0), 0);
+            evtchn_fifo_bytes_raise(domain.as_mut_ptr(), domain.len(), null_mut(), 0, 5)
         };
         assert_eq!((given.code, given.value), (14, 0));
     }
@@ -236,23 +236,23 @@ mod tests {
         let (none, table) = (null(), null_mut());
         // SAFETY: no bytes are lent.
         let lay = |near, far| unsafe {
-            evtchn_cables_lay(
+            evtchn_cables_bytes_lay(
                 table, 0, none, 0, none, 0, none, 0, none, 0, near, 5, far, 5,
             )
         };
         let codes = [(40, 0), (0, 40), (40, 40), (3, 3), (0, 1)].map(|(a, b)| lay(a, b).code);
         assert_eq!(codes, [23, 23, 23, 24, 64]);
         // SAFETY: no bytes are lent.
-        let cut = |number| unsafe { evtchn_cables_cut(table, 0, none, 0, none, 0, number, 5) };
+        let cut = |number| unsafe { evtchn_cables_bytes_cut(table, 0, none, 0, none, 0, number, 5) };
         assert_eq!([40, 39].map(cut), [23, 64]);
         // SAFETY: no bytes are lent.
-        let send = |number| unsafe { evtchn_cables_send(none, 0, none, 0, none, 0, number, 5, 0) };
+        let send = |number| unsafe { evtchn_cables_bytes_send(none, 0, none, 0, none, 0, number, 5, 0) };
         assert_eq!([40, 39].map(|number| send(number).code), [23, 64]);
         // SAFETY: no bytes are lent.
         let given = unsafe {
             [
-                evtchn_cables_close(table, 0, table, 0, table, 0, 40, 5),
-                evtchn_cables_reply(table, 0, table, 0, table, 0, 40, 0),
+                evtchn_cables_bytes_close(table, 0, table, 0, table, 0, 40, 5),
+                evtchn_cables_bytes_reply(table, 0, table, 0, table, 0, 40, 0),
             ]
         };
         assert_eq!(given, [Encoded::TOO_SHORT; 2]);

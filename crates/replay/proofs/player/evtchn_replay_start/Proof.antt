@@ -5,14 +5,14 @@ use borrow.Author.Needs.{needs}
 use Rattle.replay.proofs.player.evtchn_replay_start.Statement.{statement}
 use Rattle.replay.proofs.player.evtchn_replay_start.Tie as tie
 
-evtchn-fifo-fresh-domain-requires : tie.Need-evtchn-fifo-fresh-domain-requires
-evtchn-fifo-fresh-domain-requires c κs = search needs
+evtchn-fifo-bytes-fresh-domain-requires : tie.Need-evtchn-fifo-bytes-fresh-domain-requires
+evtchn-fifo-bytes-fresh-domain-requires c κs = search needs
 
-evtchn-fifo-fresh-ledger-requires : tie.Need-evtchn-fifo-fresh-ledger-requires
-evtchn-fifo-fresh-ledger-requires c κs = search needs
+evtchn-fifo-bytes-fresh-ledger-requires : tie.Need-evtchn-fifo-bytes-fresh-ledger-requires
+evtchn-fifo-bytes-fresh-ledger-requires c κs = search needs
 
-evtchn-fifo-fresh-guest-requires : tie.Need-evtchn-fifo-fresh-guest-requires
-evtchn-fifo-fresh-guest-requires c κs = search needs
+evtchn-fifo-bytes-fresh-guest-requires : tie.Need-evtchn-fifo-bytes-fresh-guest-requires
+evtchn-fifo-bytes-fresh-guest-requires c κs = search needs
 
 zero-requires : tie.Need-zero-requires
 zero-requires c κs = search needs
@@ -30,15 +30,15 @@ same-length-2 : tie.Need-same-length-2
 same-length-2 c = search needs
 
 returns : tie.Need-returns
-returns c = started _ _ _ (search needs) (search needs) _ _ _ _ (c .before .before .before .before .before .before .before .before .before .before .before .before .before .before .before .before .before .before .args .block .now) _ _ _ _ _ _ _ (c .before .before .before .before .before .before .before .before .before .before .before .before .before .before .evtchn-fifo-fresh-domain .ensures) (c .before .before .before .before .before .before .before .before .before .before .before .before .evtchn-fifo-fresh-ledger .ensures) (c .before .before .before .before .before .before .before .before .evtchn-fifo-fresh-guest .ensures) (c .before .before .before .before .before .before .zero .ensures) (search needs) (c .before .before .zero2 .ensures) (line-put _ _ _ _ (search needs) (c .put-line .ensures))
+returns c = started _ _ _ (search needs) (search needs) _ _ _ _ (c .before .before .before .before .before .before .before .before .before .before .before .before .before .before .before .before .before .before .args .block .now) _ _ _ _ _ _ _ (c .before .before .before .before .before .before .before .before .before .before .before .before .before .before .evtchn-fifo-bytes-fresh-domain .ensures) (c .before .before .before .before .before .before .before .before .before .before .before .before .evtchn-fifo-bytes-fresh-ledger .ensures) (c .before .before .before .before .before .before .before .before .evtchn-fifo-bytes-fresh-guest .ensures) (c .before .before .before .before .before .before .zero .ensures) (search needs) (c .before .before .zero2 .ensures) (line-put _ _ _ _ (search needs) (c .put-line .ensures))
 
 pub evtchn-replay-start-spec : {M : Type 1} → statement M
 evtchn-replay-start-spec =
     tie.close
     (tie.spec
-    evtchn-fifo-fresh-domain-requires
-    evtchn-fifo-fresh-ledger-requires
-    evtchn-fifo-fresh-guest-requires
+    evtchn-fifo-bytes-fresh-domain-requires
+    evtchn-fifo-bytes-fresh-ledger-requires
+    evtchn-fifo-bytes-fresh-guest-requires
     zero-requires
     zero-requires-2
     put-line-requires

@@ -5,8 +5,8 @@ use borrow.Author.Needs.{needs}
 use Rattle.replay.proofs.player.access.guest_access.Statement.{statement}
 use Rattle.replay.proofs.player.access.guest_access.Tie as tie
 
-evtchn-fifo-service-due-requires : tie.Need-evtchn-fifo-service-due-requires
-evtchn-fifo-service-due-requires c κs = search needs
+evtchn-fifo-bytes-service-due-requires : tie.Need-evtchn-fifo-bytes-service-due-requires
+evtchn-fifo-bytes-service-due-requires c κs = search needs
 
 is-answer-requires : tie.Need-is-answer-requires
 is-answer-requires c κs = search needs
@@ -18,7 +18,7 @@ same-length : tie.Need-same-length
 same-length c = search needs
 
 returns : tie.Need-returns
-returns c = λ d t h. guest-rests d t _ _ _ h (c .before .before .before .before .before .before .before .before .before .before .pre .0) _ _ _ _ _ (c .before .before .before .evtchn-fifo-service-due .ensures) (sym (c .before .before .is-answer .ensures) ∙ c .before .if1 .taken) (c .miss .ensures)
+returns c = λ d t h. guest-rests d t _ _ _ h (c .before .before .before .before .before .before .before .before .before .before .pre .0) _ _ _ _ _ (c .before .before .before .evtchn-fifo-bytes-service-due .ensures) (sym (c .before .before .is-answer .ensures) ∙ c .before .if1 .taken) (c .miss .ensures)
 
 access-in-requires : tie.Need-access-in-requires
 access-in-requires c κs = search needs
@@ -26,8 +26,8 @@ access-in-requires c κs = search needs
 perform-requires : tie.Need-perform-requires
 perform-requires c κs = search needs
 
-evtchn-fifo-service-reply-requires : tie.Need-evtchn-fifo-service-reply-requires
-evtchn-fifo-service-reply-requires c κs = search needs
+evtchn-fifo-bytes-service-reply-requires : tie.Need-evtchn-fifo-bytes-service-reply-requires
+evtchn-fifo-bytes-service-reply-requires c κs = search needs
 
 meet-access-requires : tie.Need-meet-access-requires
 meet-access-requires c κs = search needs
@@ -45,20 +45,20 @@ same-length-5 : tie.Need-same-length-5
 same-length-5 c = search needs
 
 returns-2 : tie.Need-returns-2
-returns-2 c = λ d t h. guest-made d t _ _ _ h (c .before .before .before .before .before .before .before .before .before .before .before .before .before .before .before .before .before .before .before .before .before .before .before .before .before .pre .0) _ _ _ _ _ _ _ _ _ _ _ (c .before .before .before .before .before .before .before .before .before .before .before .before .before .before .before .before .before .before .evtchn-fifo-service-due .ensures) (sym (c .before .before .before .before .before .before .before .before .before .before .before .before .before .before .before .before .before .is-answer .ensures) ∙ c .before .before .before .before .before .before .before .before .before .before .before .before .before .before .before .before .if1 .left) (c .before .before .before .before .before .before .before .before .before .before .before .before .before .before .before .access-in .ensures) (c .before .before .before .before .before .before .before .before .before .before .before .before .perform .ensures) (c .before .before .before .before .before .before .evtchn-fifo-service-reply .ensures) (c .before .before .meet-access .ensures)
+returns-2 c = λ d t h. guest-made d t _ _ _ h (c .before .before .before .before .before .before .before .before .before .before .before .before .before .before .before .before .before .before .before .before .before .before .before .before .before .pre .0) _ _ _ _ _ _ _ _ _ _ _ (c .before .before .before .before .before .before .before .before .before .before .before .before .before .before .before .before .before .before .evtchn-fifo-bytes-service-due .ensures) (sym (c .before .before .before .before .before .before .before .before .before .before .before .before .before .before .before .before .before .is-answer .ensures) ∙ c .before .before .before .before .before .before .before .before .before .before .before .before .before .before .before .before .if1 .left) (c .before .before .before .before .before .before .before .before .before .before .before .before .before .before .before .access-in .ensures) (c .before .before .before .before .before .before .before .before .before .before .before .before .perform .ensures) (c .before .before .before .before .before .before .evtchn-fifo-bytes-service-reply .ensures) (c .before .before .meet-access .ensures)
 
 pub guest-access-spec : {M : Type 1} → statement M
 guest-access-spec =
     tie.close
     (tie.spec
-    evtchn-fifo-service-due-requires
+    evtchn-fifo-bytes-service-due-requires
     is-answer-requires
     miss-requires
     same-length
     returns
     access-in-requires
     perform-requires
-    evtchn-fifo-service-reply-requires
+    evtchn-fifo-bytes-service-reply-requires
     meet-access-requires
     same-length-2
     same-length-3

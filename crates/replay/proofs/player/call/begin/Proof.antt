@@ -14,17 +14,17 @@ use Rattle.replay.proofs.player.call.begin.Tie as tie
 enum-known-call : tie.Need-enum-known-call
 enum-known-call c = search needs
 
-cast-evtchn-fifo-init-control : tie.Need-cast-evtchn-fifo-init-control
-cast-evtchn-fifo-init-control c = search needs
+cast-evtchn-fifo-bytes-init-control : tie.Need-cast-evtchn-fifo-bytes-init-control
+cast-evtchn-fifo-bytes-init-control c = search needs
 
-cast-evtchn-fifo-init-control-2 : tie.Need-cast-evtchn-fifo-init-control-2
-cast-evtchn-fifo-init-control-2 c = search needs
+cast-evtchn-fifo-bytes-init-control-2 : tie.Need-cast-evtchn-fifo-bytes-init-control-2
+cast-evtchn-fifo-bytes-init-control-2 c = search needs
 
-cast-evtchn-fifo-init-control-3 : tie.Need-cast-evtchn-fifo-init-control-3
-cast-evtchn-fifo-init-control-3 c = search needs
+cast-evtchn-fifo-bytes-init-control-3 : tie.Need-cast-evtchn-fifo-bytes-init-control-3
+cast-evtchn-fifo-bytes-init-control-3 c = search needs
 
-evtchn-fifo-init-control-requires : tie.Need-evtchn-fifo-init-control-requires
-evtchn-fifo-init-control-requires c κs = search needs
+evtchn-fifo-bytes-init-control-requires : tie.Need-evtchn-fifo-bytes-init-control-requires
+evtchn-fifo-bytes-init-control-requires c κs = search needs
 
 began-requires : tie.Need-began-requires
 began-requires c κs = search needs
@@ -38,11 +38,11 @@ expand-requires c κs = (c .before .before .before .before .before .before .befo
 enum-known-call-3 : tie.Need-enum-known-call-3
 enum-known-call-3 c = search needs
 
-cast-evtchn-fifo-bind : tie.Need-cast-evtchn-fifo-bind
-cast-evtchn-fifo-bind c = search needs
+cast-evtchn-fifo-bytes-bind : tie.Need-cast-evtchn-fifo-bytes-bind
+cast-evtchn-fifo-bytes-bind c = search needs
 
-evtchn-fifo-bind-requires : tie.Need-evtchn-fifo-bind-requires
-evtchn-fifo-bind-requires c κs = search needs
+evtchn-fifo-bytes-bind-requires : tie.Need-evtchn-fifo-bytes-bind-requires
+evtchn-fifo-bytes-bind-requires c κs = search needs
 
 began-requires-2 : tie.Need-began-requires-2
 began-requires-2 c κs = search needs
@@ -50,11 +50,11 @@ began-requires-2 c κs = search needs
 enum-known-call-4 : tie.Need-enum-known-call-4
 enum-known-call-4 c = search needs
 
-cast-evtchn-fifo-close : tie.Need-cast-evtchn-fifo-close
-cast-evtchn-fifo-close c = search needs
+cast-evtchn-fifo-bytes-close : tie.Need-cast-evtchn-fifo-bytes-close
+cast-evtchn-fifo-bytes-close c = search needs
 
-evtchn-fifo-close-requires : tie.Need-evtchn-fifo-close-requires
-evtchn-fifo-close-requires c κs = search needs
+evtchn-fifo-bytes-close-requires : tie.Need-evtchn-fifo-bytes-close-requires
+evtchn-fifo-bytes-close-requires c κs = search needs
 
 began-requires-3 : tie.Need-began-requires-3
 began-requires-3 c κs = search needs
@@ -62,14 +62,14 @@ began-requires-3 c κs = search needs
 enum-known-call-5 : tie.Need-enum-known-call-5
 enum-known-call-5 c = search needs
 
-cast-evtchn-fifo-set-priority : tie.Need-cast-evtchn-fifo-set-priority
-cast-evtchn-fifo-set-priority c = search needs
+cast-evtchn-fifo-bytes-set-priority : tie.Need-cast-evtchn-fifo-bytes-set-priority
+cast-evtchn-fifo-bytes-set-priority c = search needs
 
-cast-evtchn-fifo-set-priority-2 : tie.Need-cast-evtchn-fifo-set-priority-2
-cast-evtchn-fifo-set-priority-2 c = search needs
+cast-evtchn-fifo-bytes-set-priority-2 : tie.Need-cast-evtchn-fifo-bytes-set-priority-2
+cast-evtchn-fifo-bytes-set-priority-2 c = search needs
 
-evtchn-fifo-set-priority-requires : tie.Need-evtchn-fifo-set-priority-requires
-evtchn-fifo-set-priority-requires c κs = search needs
+evtchn-fifo-bytes-set-priority-requires : tie.Need-evtchn-fifo-bytes-set-priority-requires
+evtchn-fifo-bytes-set-priority-requires c κs = search needs
 
 began-requires-4 : tie.Need-began-requires-4
 began-requires-4 c κs = search needs
@@ -77,11 +77,11 @@ began-requires-4 c κs = search needs
 enum-known-call-6 : tie.Need-enum-known-call-6
 enum-known-call-6 c = search needs
 
-cast-evtchn-fifo-raise : tie.Need-cast-evtchn-fifo-raise
-cast-evtchn-fifo-raise c = search needs
+cast-evtchn-fifo-bytes-raise : tie.Need-cast-evtchn-fifo-bytes-raise
+cast-evtchn-fifo-bytes-raise c = search needs
 
-evtchn-fifo-raise-requires : tie.Need-evtchn-fifo-raise-requires
-evtchn-fifo-raise-requires c κs = search needs
+evtchn-fifo-bytes-raise-requires : tie.Need-evtchn-fifo-bytes-raise-requires
+evtchn-fifo-bytes-raise-requires c κs = search needs
 
 began-requires-5 : tie.Need-began-requires-5
 began-requires-5 c κs = search needs
@@ -89,11 +89,11 @@ began-requires-5 c κs = search needs
 enum-known-call-7 : tie.Need-enum-known-call-7
 enum-known-call-7 c = search needs
 
-cast-evtchn-fifo-unmask : tie.Need-cast-evtchn-fifo-unmask
-cast-evtchn-fifo-unmask c = search needs
+cast-evtchn-fifo-bytes-unmask : tie.Need-cast-evtchn-fifo-bytes-unmask
+cast-evtchn-fifo-bytes-unmask c = search needs
 
-evtchn-fifo-unmask-requires : tie.Need-evtchn-fifo-unmask-requires
-evtchn-fifo-unmask-requires c κs = search needs
+evtchn-fifo-bytes-unmask-requires : tie.Need-evtchn-fifo-bytes-unmask-requires
+evtchn-fifo-bytes-unmask-requires c κs = search needs
 
 began-requires-6 : tie.Need-began-requires-6
 began-requires-6 c κs = search needs
@@ -124,7 +124,7 @@ same-length-2 c = search needs
 
 returns : tie.Need-returns
 unfolding stepOfCall adds run.startBytes
-returns c = as-begins _ _ (c .before .before .before .before .before .before .before .before .before .call .given .1) (hypervisor-began _ _ _ _ _ (c .before .before .before .before .before .before .before .before .before .before .before .before .before .before .before .before .before .pre .0) (c .before .before .before .before .before .before .before .before .before .before .before .before .before .before .before .before .before .pre .1) _ (start.InitControl _ _ _ _) _ _ _ _ _ _ (as-legal (c .before .before .before .before .before .before .before .before .before .call .given .1) (c .before .before .before .before .before .before .before .before .before .before .before .before .before .before .before .before .before .pre .3)) refl refl refl (ap (ledgerKept _) (c .before .before .before .before .before .before .evtchn-fifo-init-control .ensures)) (c .before .before .began .ensures))
+returns c = as-begins _ _ (c .before .before .before .before .before .before .before .before .before .call .given .1) (hypervisor-began _ _ _ _ _ (c .before .before .before .before .before .before .before .before .before .before .before .before .before .before .before .before .before .pre .0) (c .before .before .before .before .before .before .before .before .before .before .before .before .before .before .before .before .before .pre .1) _ (start.InitControl _ _ _ _) _ _ _ _ _ _ (as-legal (c .before .before .before .before .before .before .before .before .before .call .given .1) (c .before .before .before .before .before .before .before .before .before .before .before .before .before .before .before .before .before .pre .3)) refl refl refl (ap (ledgerKept _) (c .before .before .before .before .before .before .evtchn-fifo-bytes-init-control .ensures)) (c .before .before .began .ensures))
 
 same-length-3 : tie.Need-same-length-3
 same-length-3 c = search needs
@@ -152,7 +152,7 @@ same-length-9 c = search needs
 
 returns-3 : tie.Need-returns-3
 unfolding stepOfCall adds run.startBytes
-returns-3 c = as-begins _ _ (c .before .before .before .before .before .before .before .before .before .before .before .before .before .call3 .given .1) (hypervisor-began _ _ _ _ _ (c .before .before .before .before .before .before .before .before .before .before .before .before .before .before .before .before .before .before .before .before .before .pre .0) (c .before .before .before .before .before .before .before .before .before .before .before .before .before .before .before .before .before .before .before .before .before .pre .1) _ (start.Bind _) _ _ _ _ _ _ (as-legal (c .before .before .before .before .before .before .before .before .before .before .before .before .before .call3 .given .1) (c .before .before .before .before .before .before .before .before .before .before .before .before .before .before .before .before .before .before .before .before .before .pre .3)) refl refl refl (c .before .before .before .before .before .before .before .before .evtchn-fifo-bind .ensures) (c .before .before .began2 .ensures))
+returns-3 c = as-begins _ _ (c .before .before .before .before .before .before .before .before .before .before .before .before .before .call3 .given .1) (hypervisor-began _ _ _ _ _ (c .before .before .before .before .before .before .before .before .before .before .before .before .before .before .before .before .before .before .before .before .before .pre .0) (c .before .before .before .before .before .before .before .before .before .before .before .before .before .before .before .before .before .before .before .before .before .pre .1) _ (start.Bind _) _ _ _ _ _ _ (as-legal (c .before .before .before .before .before .before .before .before .before .before .before .before .before .call3 .given .1) (c .before .before .before .before .before .before .before .before .before .before .before .before .before .before .before .before .before .before .before .before .before .pre .3)) refl refl refl (c .before .before .before .before .before .before .before .before .evtchn-fifo-bytes-bind .ensures) (c .before .before .began2 .ensures))
 
 same-length-10 : tie.Need-same-length-10
 same-length-10 c = search needs
@@ -165,7 +165,7 @@ same-length-12 c = search needs
 
 returns-4 : tie.Need-returns-4
 unfolding stepOfCall adds run.startBytes
-returns-4 c = as-begins _ _ (c .before .before .before .before .before .before .before .before .before .before .before .before .before .call4 .given .1) (hypervisor-began _ _ _ _ _ (c .before .before .before .before .before .before .before .before .before .before .before .before .before .before .before .before .before .before .before .before .before .pre .0) (c .before .before .before .before .before .before .before .before .before .before .before .before .before .before .before .before .before .before .before .before .before .pre .1) _ (start.Close _) _ _ _ _ _ _ (as-legal (c .before .before .before .before .before .before .before .before .before .before .before .before .before .call4 .given .1) (c .before .before .before .before .before .before .before .before .before .before .before .before .before .before .before .before .before .before .before .before .before .pre .3)) refl refl refl (c .before .before .before .before .before .before .before .before .evtchn-fifo-close .ensures) (c .before .before .began3 .ensures))
+returns-4 c = as-begins _ _ (c .before .before .before .before .before .before .before .before .before .before .before .before .before .call4 .given .1) (hypervisor-began _ _ _ _ _ (c .before .before .before .before .before .before .before .before .before .before .before .before .before .before .before .before .before .before .before .before .before .pre .0) (c .before .before .before .before .before .before .before .before .before .before .before .before .before .before .before .before .before .before .before .before .before .pre .1) _ (start.Close _) _ _ _ _ _ _ (as-legal (c .before .before .before .before .before .before .before .before .before .before .before .before .before .call4 .given .1) (c .before .before .before .before .before .before .before .before .before .before .before .before .before .before .before .before .before .before .before .before .before .pre .3)) refl refl refl (c .before .before .before .before .before .before .before .before .evtchn-fifo-bytes-close .ensures) (c .before .before .began3 .ensures))
 
 same-length-13 : tie.Need-same-length-13
 same-length-13 c = search needs
@@ -178,7 +178,7 @@ same-length-15 c = search needs
 
 returns-5 : tie.Need-returns-5
 unfolding stepOfCall adds run.startBytes
-returns-5 c = as-begins _ _ (c .before .before .before .before .before .before .before .before .before .before .before .before .before .before .call5 .given .1) (hypervisor-began _ _ _ _ _ (c .before .before .before .before .before .before .before .before .before .before .before .before .before .before .before .before .before .before .before .before .before .before .pre .0) (c .before .before .before .before .before .before .before .before .before .before .before .before .before .before .before .before .before .before .before .before .before .before .pre .1) _ (start.SetPriority _ _) _ _ _ _ _ _ (as-legal (c .before .before .before .before .before .before .before .before .before .before .before .before .before .before .call5 .given .1) (c .before .before .before .before .before .before .before .before .before .before .before .before .before .before .before .before .before .before .before .before .before .before .pre .3)) refl refl refl (c .before .before .before .before .before .before .before .before .evtchn-fifo-set-priority .ensures) (c .before .before .began4 .ensures))
+returns-5 c = as-begins _ _ (c .before .before .before .before .before .before .before .before .before .before .before .before .before .before .call5 .given .1) (hypervisor-began _ _ _ _ _ (c .before .before .before .before .before .before .before .before .before .before .before .before .before .before .before .before .before .before .before .before .before .before .pre .0) (c .before .before .before .before .before .before .before .before .before .before .before .before .before .before .before .before .before .before .before .before .before .before .pre .1) _ (start.SetPriority _ _) _ _ _ _ _ _ (as-legal (c .before .before .before .before .before .before .before .before .before .before .before .before .before .before .call5 .given .1) (c .before .before .before .before .before .before .before .before .before .before .before .before .before .before .before .before .before .before .before .before .before .before .pre .3)) refl refl refl (c .before .before .before .before .before .before .before .before .evtchn-fifo-bytes-set-priority .ensures) (c .before .before .began4 .ensures))
 
 same-length-16 : tie.Need-same-length-16
 same-length-16 c = search needs
@@ -191,7 +191,7 @@ same-length-18 c = search needs
 
 returns-6 : tie.Need-returns-6
 unfolding stepOfCall adds run.startBytes
-returns-6 c = as-begins _ _ (c .before .before .before .before .before .before .before .before .before .before .before .before .before .call6 .given .1) (hypervisor-began _ _ _ _ _ (c .before .before .before .before .before .before .before .before .before .before .before .before .before .before .before .before .before .before .before .before .before .pre .0) (c .before .before .before .before .before .before .before .before .before .before .before .before .before .before .before .before .before .before .before .before .before .pre .1) _ (start.Raise _) _ _ _ _ _ _ (as-legal (c .before .before .before .before .before .before .before .before .before .before .before .before .before .call6 .given .1) (c .before .before .before .before .before .before .before .before .before .before .before .before .before .before .before .before .before .before .before .before .before .pre .3)) refl refl refl (c .before .before .before .before .before .before .before .before .evtchn-fifo-raise .ensures) (c .before .before .began5 .ensures))
+returns-6 c = as-begins _ _ (c .before .before .before .before .before .before .before .before .before .before .before .before .before .call6 .given .1) (hypervisor-began _ _ _ _ _ (c .before .before .before .before .before .before .before .before .before .before .before .before .before .before .before .before .before .before .before .before .before .pre .0) (c .before .before .before .before .before .before .before .before .before .before .before .before .before .before .before .before .before .before .before .before .before .pre .1) _ (start.Raise _) _ _ _ _ _ _ (as-legal (c .before .before .before .before .before .before .before .before .before .before .before .before .before .call6 .given .1) (c .before .before .before .before .before .before .before .before .before .before .before .before .before .before .before .before .before .before .before .before .before .pre .3)) refl refl refl (c .before .before .before .before .before .before .before .before .evtchn-fifo-bytes-raise .ensures) (c .before .before .began5 .ensures))
 
 same-length-19 : tie.Need-same-length-19
 same-length-19 c = search needs
@@ -204,7 +204,7 @@ same-length-21 c = search needs
 
 returns-7 : tie.Need-returns-7
 unfolding stepOfCall adds run.startBytes
-returns-7 c = as-begins _ _ (c .before .before .before .before .before .before .before .before .before .before .before .before .before .call7 .given .1) (hypervisor-began _ _ _ _ _ (c .before .before .before .before .before .before .before .before .before .before .before .before .before .before .before .before .before .before .before .before .before .pre .0) (c .before .before .before .before .before .before .before .before .before .before .before .before .before .before .before .before .before .before .before .before .before .pre .1) _ (start.Unmask _) _ _ _ _ _ _ (as-legal (c .before .before .before .before .before .before .before .before .before .before .before .before .before .call7 .given .1) (c .before .before .before .before .before .before .before .before .before .before .before .before .before .before .before .before .before .before .before .before .before .pre .3)) refl refl refl (c .before .before .before .before .before .before .before .before .evtchn-fifo-unmask .ensures) (c .before .before .began6 .ensures))
+returns-7 c = as-begins _ _ (c .before .before .before .before .before .before .before .before .before .before .before .before .before .call7 .given .1) (hypervisor-began _ _ _ _ _ (c .before .before .before .before .before .before .before .before .before .before .before .before .before .before .before .before .before .before .before .before .before .pre .0) (c .before .before .before .before .before .before .before .before .before .before .before .before .before .before .before .before .before .before .before .before .before .pre .1) _ (start.Unmask _) _ _ _ _ _ _ (as-legal (c .before .before .before .before .before .before .before .before .before .before .before .before .before .call7 .given .1) (c .before .before .before .before .before .before .before .before .before .before .before .before .before .before .before .before .before .before .before .before .before .pre .3)) refl refl refl (c .before .before .before .before .before .before .before .before .evtchn-fifo-bytes-unmask .ensures) (c .before .before .began6 .ensures))
 
 same-length-22 : tie.Need-same-length-22
 same-length-22 c = search needs
@@ -244,33 +244,33 @@ begin-spec =
     tie.close
     (tie.spec
     enum-known-call
-    cast-evtchn-fifo-init-control
-    cast-evtchn-fifo-init-control-2
-    cast-evtchn-fifo-init-control-3
-    evtchn-fifo-init-control-requires
+    cast-evtchn-fifo-bytes-init-control
+    cast-evtchn-fifo-bytes-init-control-2
+    cast-evtchn-fifo-bytes-init-control-3
+    evtchn-fifo-bytes-init-control-requires
     began-requires
     enum-known-call-2
     expand-requires
     enum-known-call-3
-    cast-evtchn-fifo-bind
-    evtchn-fifo-bind-requires
+    cast-evtchn-fifo-bytes-bind
+    evtchn-fifo-bytes-bind-requires
     began-requires-2
     enum-known-call-4
-    cast-evtchn-fifo-close
-    evtchn-fifo-close-requires
+    cast-evtchn-fifo-bytes-close
+    evtchn-fifo-bytes-close-requires
     began-requires-3
     enum-known-call-5
-    cast-evtchn-fifo-set-priority
-    cast-evtchn-fifo-set-priority-2
-    evtchn-fifo-set-priority-requires
+    cast-evtchn-fifo-bytes-set-priority
+    cast-evtchn-fifo-bytes-set-priority-2
+    evtchn-fifo-bytes-set-priority-requires
     began-requires-4
     enum-known-call-6
-    cast-evtchn-fifo-raise
-    evtchn-fifo-raise-requires
+    cast-evtchn-fifo-bytes-raise
+    evtchn-fifo-bytes-raise-requires
     began-requires-5
     enum-known-call-7
-    cast-evtchn-fifo-unmask
-    evtchn-fifo-unmask-requires
+    cast-evtchn-fifo-bytes-unmask
+    evtchn-fifo-bytes-unmask-requires
     began-requires-6
     enum-told
     service-requires

@@ -10,8 +10,8 @@ use Rattle.replay.proofs.player.call.expand.Tie as tie
 pages-in-requires : tie.Need-pages-in-requires
 pages-in-requires c κs = search needs
 
-evtchn-fifo-expand-array-requires : tie.Need-evtchn-fifo-expand-array-requires
-evtchn-fifo-expand-array-requires c κs = search needs
+evtchn-fifo-bytes-expand-array-requires : tie.Need-evtchn-fifo-bytes-expand-array-requires
+evtchn-fifo-bytes-expand-array-requires c κs = search needs
 
 code-in-requires : tie.Need-code-in-requires
 code-in-requires c κs = search needs
@@ -32,7 +32,7 @@ same-length : tie.Need-same-length
 same-length c = search needs
 
 returns : tie.Need-returns
-returns c = λ t b. expand-past (c .before .before .before .before .before .before .before .before .before .before .before .before .before .before .before .args .domain .now) t (c .before .before .before .before .before .before .before .before .before .before .before .before .before .before .before .args .guest .now) (c .before .before .before .before .before .before .before .before .before .before .before .before .before .before .before .args .words .now) b (c .before .before .before .before .before .before .before .before .before .before .before .before .before .before .before .pre .0) (c .before .before .before .before .before .before .before .before .before .before .before .before .before .before .before .pre .1) (c .before .before .before .before .before .before .before .before .before .before .before .before .before .before .before .args .lines) (c .before .before .before .before .before .before .before .before .before .before .before .before .before .before .before .args .frame) (c .before .before .before .before .before .before .before .before .before .before .before .before .before .before .before .pre .3) _ _ (c .before .before .before .before .before .before .before .evtchn-fifo-expand-array .ensures) _ _ _ _ (sym (ap (λ (x : Code). eqb (x .number) 0) (c .before .before .before .before .code-in .ensures)) ∙ c .before .before .if1 .taken) (c .before .before .before .before .before .before .before .before .before .pages-in .ensures) (c .before .if2 .taken) (c .stopped .ensures)
+returns c = λ t b. expand-past (c .before .before .before .before .before .before .before .before .before .before .before .before .before .before .before .args .domain .now) t (c .before .before .before .before .before .before .before .before .before .before .before .before .before .before .before .args .guest .now) (c .before .before .before .before .before .before .before .before .before .before .before .before .before .before .before .args .words .now) b (c .before .before .before .before .before .before .before .before .before .before .before .before .before .before .before .pre .0) (c .before .before .before .before .before .before .before .before .before .before .before .before .before .before .before .pre .1) (c .before .before .before .before .before .before .before .before .before .before .before .before .before .before .before .args .lines) (c .before .before .before .before .before .before .before .before .before .before .before .before .before .before .before .args .frame) (c .before .before .before .before .before .before .before .before .before .before .before .before .before .before .before .pre .3) _ _ (c .before .before .before .before .before .before .before .evtchn-fifo-bytes-expand-array .ensures) _ _ _ _ (sym (ap (λ (x : Code). eqb (x .number) 0) (c .before .before .before .before .code-in .ensures)) ∙ c .before .before .if1 .taken) (c .before .before .before .before .before .before .before .before .before .pages-in .ensures) (c .before .if2 .taken) (c .stopped .ensures)
 
 zero-page-requires : tie.Need-zero-page-requires
 zero-page-requires c κs = search needs
@@ -40,14 +40,14 @@ zero-page-requires c κs = search needs
 pages-in-requires-2 : tie.Need-pages-in-requires-2
 pages-in-requires-2 c κs = search needs
 
-cast-evtchn-fifo-tell : tie.Need-cast-evtchn-fifo-tell
-cast-evtchn-fifo-tell c = search needs
+cast-evtchn-fifo-bytes-tell : tie.Need-cast-evtchn-fifo-bytes-tell
+cast-evtchn-fifo-bytes-tell c = search needs
 
-mul-evtchn-fifo-tell : tie.Need-mul-evtchn-fifo-tell
-mul-evtchn-fifo-tell c = search needs
+mul-evtchn-fifo-bytes-tell : tie.Need-mul-evtchn-fifo-bytes-tell
+mul-evtchn-fifo-bytes-tell c = search needs
 
-evtchn-fifo-tell-requires : tie.Need-evtchn-fifo-tell-requires
-evtchn-fifo-tell-requires c κs = search needs
+evtchn-fifo-bytes-tell-requires : tie.Need-evtchn-fifo-bytes-tell-requires
+evtchn-fifo-bytes-tell-requires c κs = search needs
 
 began-requires : tie.Need-began-requires
 began-requires c κs = search needs
@@ -65,7 +65,7 @@ same-length-5 : tie.Need-same-length-5
 same-length-5 c = search needs
 
 returns-2 : tie.Need-returns-2
-returns-2 c = λ t b. expand-added _ t _ _ b (c .before .before .before .before .before .before .before .before .before .before .before .before .before .before .before .before .before .before .before .before .before .before .before .before .before .before .before .before .pre .0) (c .before .before .before .before .before .before .before .before .before .before .before .before .before .before .before .before .before .before .before .before .before .before .before .before .before .before .before .before .pre .1) _ _ (c .before .before .before .before .before .before .before .before .before .before .before .before .before .before .before .before .before .before .before .before .before .before .before .before .before .before .before .before .pre .3) _ _ (c .before .before .before .before .before .before .before .before .before .before .before .before .before .before .before .before .before .before .before .before .evtchn-fifo-expand-array .ensures) _ _ _ _ _ _ _ (sym (ap (λ (x : Code). eqb (x .number) 0) (c .before .before .before .before .before .before .before .before .before .before .before .before .before .before .before .before .before .code-in .ensures)) ∙ c .before .before .before .before .before .before .before .before .before .before .before .before .before .before .before .if1 .taken) (c .before .before .before .before .before .before .before .before .before .before .before .before .before .before .before .before .before .before .before .before .before .before .pages-in .ensures) (c .before .before .before .before .before .before .before .before .before .before .before .before .before .before .if2 .left) (c .before .before .before .before .before .before .before .before .before .before .before .before .zero-page .ensures) (c .before .before .before .before .before .before .before .before .pages-in2 .ensures) (c .before .before .before .before .before .before .evtchn-fifo-tell .ensures) (c .before .before .began .ensures)
+returns-2 c = λ t b. expand-added _ t _ _ b (c .before .before .before .before .before .before .before .before .before .before .before .before .before .before .before .before .before .before .before .before .before .before .before .before .before .before .before .before .pre .0) (c .before .before .before .before .before .before .before .before .before .before .before .before .before .before .before .before .before .before .before .before .before .before .before .before .before .before .before .before .pre .1) _ _ (c .before .before .before .before .before .before .before .before .before .before .before .before .before .before .before .before .before .before .before .before .before .before .before .before .before .before .before .before .pre .3) _ _ (c .before .before .before .before .before .before .before .before .before .before .before .before .before .before .before .before .before .before .before .before .evtchn-fifo-bytes-expand-array .ensures) _ _ _ _ _ _ _ (sym (ap (λ (x : Code). eqb (x .number) 0) (c .before .before .before .before .before .before .before .before .before .before .before .before .before .before .before .before .before .code-in .ensures)) ∙ c .before .before .before .before .before .before .before .before .before .before .before .before .before .before .before .if1 .taken) (c .before .before .before .before .before .before .before .before .before .before .before .before .before .before .before .before .before .before .before .before .before .before .pages-in .ensures) (c .before .before .before .before .before .before .before .before .before .before .before .before .before .before .if2 .left) (c .before .before .before .before .before .before .before .before .before .before .before .before .zero-page .ensures) (c .before .before .before .before .before .before .before .before .pages-in2 .ensures) (c .before .before .before .before .before .before .evtchn-fifo-bytes-tell .ensures) (c .before .before .began .ensures)
 
 began-requires-2 : tie.Need-began-requires-2
 began-requires-2 c κs = search needs
@@ -77,14 +77,14 @@ same-length-7 : tie.Need-same-length-7
 same-length-7 c = search needs
 
 returns-3 : tie.Need-returns-3
-returns-3 c = λ t b. expand-refused _ t _ _ b (c .before .before .before .before .before .before .before .before .before .before .before .before .before .before .before .before .before .pre .0) (c .before .before .before .before .before .before .before .before .before .before .before .before .before .before .before .before .before .pre .1) _ _ (c .before .before .before .before .before .before .before .before .before .before .before .before .before .before .before .before .before .pre .3) _ _ (c .before .before .before .before .before .before .before .before .before .evtchn-fifo-expand-array .ensures) _ _ (sym (ap (λ (x : Code). eqb (x .number) 0) (c .before .before .before .before .before .before .code-in .ensures)) ∙ c .before .before .before .before .if1 .left) (c .before .before .began2 .ensures)
+returns-3 c = λ t b. expand-refused _ t _ _ b (c .before .before .before .before .before .before .before .before .before .before .before .before .before .before .before .before .before .pre .0) (c .before .before .before .before .before .before .before .before .before .before .before .before .before .before .before .before .before .pre .1) _ _ (c .before .before .before .before .before .before .before .before .before .before .before .before .before .before .before .before .before .pre .3) _ _ (c .before .before .before .before .before .before .before .before .before .evtchn-fifo-bytes-expand-array .ensures) _ _ (sym (ap (λ (x : Code). eqb (x .number) 0) (c .before .before .before .before .before .before .code-in .ensures)) ∙ c .before .before .before .before .if1 .left) (c .before .before .began2 .ensures)
 
 pub expand-spec : {M : Type 1} → statement M
 expand-spec =
     tie.close
     (tie.spec
     pages-in-requires
-    evtchn-fifo-expand-array-requires
+    evtchn-fifo-bytes-expand-array-requires
     code-in-requires
     cast-full
     add-full
@@ -94,9 +94,9 @@ expand-spec =
     returns
     zero-page-requires
     pages-in-requires-2
-    cast-evtchn-fifo-tell
-    mul-evtchn-fifo-tell
-    evtchn-fifo-tell-requires
+    cast-evtchn-fifo-bytes-tell
+    mul-evtchn-fifo-bytes-tell
+    evtchn-fifo-bytes-tell-requires
     began-requires
     same-length-2
     same-length-3

@@ -4,8 +4,8 @@ use borrow.Author.Needs.{needs}
 use Rattle.replay.proofs.player.call.service.Statement.{statement}
 use Rattle.replay.proofs.player.call.service.Tie as tie
 
-evtchn-fifo-service-requires : tie.Need-evtchn-fifo-service-requires
-evtchn-fifo-service-requires c κs = search needs
+evtchn-fifo-bytes-service-requires : tie.Need-evtchn-fifo-bytes-service-requires
+evtchn-fifo-bytes-service-requires c κs = search needs
 
 began-requires : tie.Need-began-requires
 began-requires c κs = search needs
@@ -17,9 +17,9 @@ same-length-2 : tie.Need-same-length-2
 same-length-2 c = search needs
 
 returns : tie.Need-returns
-returns c = λ d t ws b h. service-began d t _ ws b h (c .before .before .before .before .before .before .before .before .before .before .pre .0) _ _ _ _ _ (c .before .before .before .before .before .before .evtchn-fifo-service .ensures) (c .before .before .began .ensures)
+returns c = λ d t ws b h. service-began d t _ ws b h (c .before .before .before .before .before .before .before .before .before .before .pre .0) _ _ _ _ _ (c .before .before .before .before .before .before .evtchn-fifo-bytes-service .ensures) (c .before .before .began .ensures)
 
 pub service-spec : {M : Type 1} → statement M
 service-spec =
     tie.close
-    (tie.spec evtchn-fifo-service-requires began-requires same-length same-length-2 returns)
+    (tie.spec evtchn-fifo-bytes-service-requires began-requires same-length same-length-2 returns)
