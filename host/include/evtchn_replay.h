@@ -30,8 +30,8 @@
  *
  * There is no lock: one thread at a time for what one replay is lent. Buffers of one call must not overlap; words and block are aligned as
  * uint32_t is, the others may have any alignment, and those with a length may be NULL where it is 0. Nothing traps, whatever position,
- * buffers and text hold, and nothing beyond what is lent is touched; but only what evtchn_replay_start made and evtchn_replay_feed alone
- * changed is a replay.
+ * buffers and text hold, and nothing beyond what is lent is touched; but only what evtchn_replay_bytes_start made and
+ * evtchn_replay_bytes_feed alone changed is a replay.
  */
 #ifndef EVTCHN_REPLAY_H
 #define EVTCHN_REPLAY_H
@@ -56,9 +56,10 @@ extern "C" {
 /* ---- what a replay comes to ---- */
 
 /*
- * Lines count from 1, the header is the first. On one line 22 comes before a difference; a last line without its newline is 22. Where a
- * header, an answer or a mask's access is still due at the end, the line after the last differs. A call, a service or a clear_mask that is
- * under way at the end is no difference. While a service and a clear_mask are both under way, the guest's accesses are the clear_mask's.
+ * Lines count from 1, the header is the first. A line that is not of the form is reported as such, before it could differ; a last line
+ * without its newline is not of the form. Where a header, an answer or a mask's access is still due at the end, the line after the last
+ * differs. A call, a service or a clear_mask that is under way at the end is no difference. While a service and a clear_mask are both under
+ * way, the guest's accesses are the clear_mask's.
  *
  * Every log is played by the rules of this library's layout. One that a library of layout 1 wrote differs where a first cas was not taken
  * and its word kept LINKED: there it has a second cas, and the or that sets BUSY is due.
@@ -72,19 +73,19 @@ enum evtchn_replay_kind {
 
 typedef struct evtchn_replay_result {
     uint32_t kind; /* a number above */
-    uint64_t line; /* of 0 the number of lines, of the others the number of that line */
+    uint64_t line; /* of AGREES the number of lines, of the others the number of that line */
 } evtchn_replay_result;
 
 /* Where a replay is. Numbers of lines stay at 2^64 - 1. */
 typedef struct evtchn_replay_position {
     uint64_t lines; /* how many lines agreed */
     size_t line;    /* bytes of the line that is being read, or at which it stopped: its first 64, kept in line */
-    size_t due;     /* bytes of the line that is due, kept in due; 0: none. Where it stopped at 22 or 33 they mean nothing */
-    uint32_t mask;  /* 1: that line is a mask's access, and the mask's answer 0 is due after it */
+    size_t due;     /* bytes of the line that is due, kept in due; 0: none. They mean nothing where it stopped otherwise than by DIFFERS */
+    uint32_t mask;  /* 1: that line is a mask's access, and the mask's answer DONE is due after it */
     uint32_t stop;  /* 0, or the kind at which it stopped */
 } evtchn_replay_position;
 
-/* ---- the functions, on what is lent ---- */
+/* ---- the functions, on bytes: each has bytes in its name ---- */
 
 /*
  * domain    the record of the domain that is played; guest the record of its guest
@@ -97,16 +98,17 @@ typedef struct evtchn_replay_position {
  */
 
 /* The start of a replay, at which the header is due: all that is lent is made fresh, whatever it held. */
-evtchn_replay_position evtchn_replay_start(uint8_t domain[100], uint8_t *ledger, size_t ledger_length, uint8_t guest[104],
-                                           uint32_t *words, size_t words_length, uint32_t block[18], uint8_t due[64]);
+evtchn_replay_position evtchn_replay_bytes_start(uint8_t domain[100], uint8_t *ledger, size_t ledger_length, uint8_t guest[104],
+                                                 uint32_t *words, size_t words_length, uint32_t block[18], uint8_t due[64]);
 /* The position after a piece of the log. A replay that has stopped takes no more: position and buffers stay. */
-evtchn_replay_position evtchn_replay_feed(evtchn_replay_position position, uint8_t domain[100], uint8_t *ledger, size_t ledger_length,
-                                          uint8_t guest[104], uint32_t *words, size_t words_length, uint32_t block[18],
-                                          uint8_t line[64], uint8_t due[64], const uint8_t *text, size_t text_length);
+evtchn_replay_position evtchn_replay_bytes_feed(evtchn_replay_position position, uint8_t domain[100], uint8_t *ledger,
+                                                size_t ledger_length, uint8_t guest[104], uint32_t *words, size_t words_length,
+                                                uint32_t block[18], uint8_t line[64], uint8_t due[64], const uint8_t *text,
+                                                size_t text_length);
 /* The report, if the log ends here. */
-evtchn_replay_result evtchn_replay_report(evtchn_replay_position position);
+evtchn_replay_result evtchn_replay_bytes_report(evtchn_replay_position position);
 
-/* ---- the same with one type: a replay and what it is lent ---- */
+/* ---- the same with a type: a replay and what it is lent ---- */
 
 typedef struct evtchn_replay {
     evtchn_fifo_domain domain;
@@ -126,20 +128,20 @@ static inline void evtchn_replay_begin(evtchn_replay *replay, uint16_t *ledger, 
     replay->entries = entries;
     replay->words = words;
     replay->count = count;
-    replay->position = evtchn_replay_start(replay->domain.bytes, (uint8_t *)ledger, entries * EVTCHN_FIFO_ENTRY_SIZE, replay->guest.bytes,
-                                           words, count, replay->block, replay->due);
+    replay->position = evtchn_replay_bytes_start(replay->domain.bytes, (uint8_t *)ledger, entries * EVTCHN_FIFO_ENTRY_SIZE,
+                                                 replay->guest.bytes, words, count, replay->block, replay->due);
 }
 
 /* The next piece of the log: 1 while all whole lines agree, 0 as soon as one does not, and from then on. */
 static inline int evtchn_replay_play(evtchn_replay *replay, const void *text, size_t bytes)
 {
-    replay->position = evtchn_replay_feed(replay->position, replay->domain.bytes, (uint8_t *)replay->ledger,
-                                          replay->entries * EVTCHN_FIFO_ENTRY_SIZE, replay->guest.bytes, replay->words, replay->count,
-                                          replay->block, replay->line, replay->due, (const uint8_t *)text, bytes);
+    replay->position = evtchn_replay_bytes_feed(replay->position, replay->domain.bytes, (uint8_t *)replay->ledger,
+                                                replay->entries * EVTCHN_FIFO_ENTRY_SIZE, replay->guest.bytes, replay->words,
+                                                replay->count, replay->block, replay->line, replay->due, (const uint8_t *)text, bytes);
     return replay->position.stop == 0;
 }
 
-static inline evtchn_replay_result evtchn_replay_end(const evtchn_replay *replay) { return evtchn_replay_report(replay->position); }
+static inline evtchn_replay_result evtchn_replay_end(const evtchn_replay *replay) { return evtchn_replay_bytes_report(replay->position); }
 
 /* A text of a replay, without its newline. No zero ends it, and its bytes are there until the next piece is played. */
 typedef struct evtchn_replay_text {

@@ -4,8 +4,8 @@
 mod print;
 
 ghost use Prim.Native.Nat.{_≤_, _<_};
-use replay::player::evtchn_replay_feed;
-use replay::player::evtchn_replay_start;
+use replay::player::evtchn_replay_bytes_feed;
+use replay::player::evtchn_replay_bytes_start;
 
 // The log's descriptor: standard input where no file or a dash is named, negative where the file can't be opened.
 fn opened() -> i32 {
@@ -80,7 +80,7 @@ fn play(fd: i32, ledger: &mut [u8], words: &mut [u32], shown: bool) {
     let mut line = [0u8; 64];
     let mut due = [0u8; 64];
     let mut space = io::large_buffer();
-    let mut position = evtchn_replay_start(
+    let mut position = evtchn_replay_bytes_start(
         &mut domain,
         ledger,
         &mut guest,
@@ -91,7 +91,7 @@ fn play(fd: i32, ledger: &mut [u8], words: &mut [u32], shown: bool) {
     let mut turns: u64 = 1099511627776;
     while turns > 0 {
         let n = io::read_full(fd, &mut space);
-        position = evtchn_replay_feed(
+        position = evtchn_replay_bytes_feed(
             position,
             &mut domain,
             ledger,

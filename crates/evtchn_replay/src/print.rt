@@ -1,6 +1,6 @@
 // The report as text.
 use replay::player::Position;
-use replay::player::evtchn_replay_report;
+use replay::player::evtchn_replay_bytes_report;
 
 // A byte as it is shown: a tab or a printable one as it is, any other as a question mark.
 fn shown(byte: u8) -> u8 {
@@ -64,7 +64,7 @@ fn print_line(number: u64, what: &[u8]) {
 }
 
 pub(crate) fn report(position: Position, line: &[u8; 64], due: &[u8; 64]) {
-    let result = evtchn_replay_report(position);
+    let result = evtchn_replay_bytes_report(position);
     let kind = result.kind;
     let number = result.line;
     match kind {

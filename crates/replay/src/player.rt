@@ -56,7 +56,7 @@ fn zero(words: &mut [u32])
 
 // The start: all that is lent is made fresh, whatever it held, and the header is due.
 #[no_mangle]
-pub extern "C" fn evtchn_replay_start(
+pub extern "C" fn evtchn_replay_bytes_start(
     domain: &mut [u8; 100],
     ledger: &mut [u8],
     guest: &mut [u8; 104],
@@ -83,7 +83,7 @@ pub extern "C" fn evtchn_replay_start(
 
 // A piece of the log.
 #[no_mangle]
-pub extern "C" fn evtchn_replay_feed(
+pub extern "C" fn evtchn_replay_bytes_feed(
     position: Position,
     domain: &mut [u8; 100],
     ledger: &mut [u8],
@@ -116,7 +116,7 @@ pub extern "C" fn evtchn_replay_feed(
 
 // The report, if the log ends here.
 #[no_mangle]
-pub extern "C" fn evtchn_replay_report(position: Position) -> Report
+pub extern "C" fn evtchn_replay_bytes_report(position: Position) -> Report
     ensures { λ r. ⌜ ((line due : List ℕ) (w : World) → length line ≡ 64 → r ≡ reports (feedAt position line due w)) ⌝ }
 {
     let lines = position.lines;

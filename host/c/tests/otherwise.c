@@ -19,30 +19,13 @@ static void begin(uint32_t ports)
         CHECK(world_bind(&w, 5 + k).code == EVTCHN_FIFO_DONE);
 }
 
-static uint32_t raise_port(uint32_t port)
-{
-    evtchn_fifo_next next = evtchn_fifo_domain_raise(&w.domain, ledger, WORLD_ENTRIES, port);
-    return evtchn_fifo_run(&w.domain, ledger, WORLD_ENTRIES, &w.shared, next).code;
-}
+/* A call of the hypervisor's from what its start gave: its answer's number. */
+static uint32_t run(evtchn_fifo_next start) { return evtchn_fifo_run(&w.domain, ledger, WORLD_ENTRIES, &w.shared, start).code; }
 
-static uint32_t bind_port(uint32_t port)
-{
-    evtchn_fifo_next next = evtchn_fifo_domain_bind(&w.domain, ledger, WORLD_ENTRIES, port);
-    return evtchn_fifo_run(&w.domain, ledger, WORLD_ENTRIES, &w.shared, next).code;
-}
-
-static uint32_t unmask_port(uint32_t port)
-{
-    evtchn_fifo_next next = evtchn_fifo_domain_unmask(&w.domain, ledger, WORLD_ENTRIES, port);
-    return evtchn_fifo_run(&w.domain, ledger, WORLD_ENTRIES, &w.shared, next).code;
-}
-
-static uint32_t close_port(uint32_t port)
-{
-    evtchn_fifo_next next = evtchn_fifo_domain_close(&w.domain, ledger, WORLD_ENTRIES, port);
-    return evtchn_fifo_run(&w.domain, ledger, WORLD_ENTRIES, &w.shared, next).code;
-}
-
+static uint32_t raise_port(uint32_t port) { return run(evtchn_fifo_domain_raise(&w.domain, ledger, WORLD_ENTRIES, port)); }
+static uint32_t bind_port(uint32_t port) { return run(evtchn_fifo_domain_bind(&w.domain, ledger, WORLD_ENTRIES, port)); }
+static uint32_t unmask_port(uint32_t port) { return run(evtchn_fifo_domain_unmask(&w.domain, ledger, WORLD_ENTRIES, port)); }
+static uint32_t close_port(uint32_t port) { return run(evtchn_fifo_domain_close(&w.domain, ledger, WORLD_ENTRIES, port)); }
 static uint32_t serve(void) { return evtchn_fifo_serve(&w.guest, &w.shared).code; }
 
 /* Whether a service gives that answer, with that port. */
@@ -101,7 +84,7 @@ static void not_mapped(void)
     CHECK(raise_port(6) == EVTCHN_FIFO_CALL_UNDER_WAY && bind_port(9) == EVTCHN_FIFO_CALL_UNDER_WAY);
     CHECK(evtchn_fifo_domain_under_way(&w.domain) == EVTCHN_FIFO_RAISE && evtchn_fifo_domain_due(&w.domain).index == 5);
     w.shared.words = EVTCHN_FIFO_PAGE_WORDS;
-    CHECK(evtchn_fifo_run(&w.domain, ledger, WORLD_ENTRIES, &w.shared, evtchn_fifo_domain_due(&w.domain)).code == EVTCHN_FIFO_UPCALL_WANTED);
+    CHECK(run(evtchn_fifo_domain_due(&w.domain)) == EVTCHN_FIFO_UPCALL_WANTED);
     CHECK(raise_port(6) == EVTCHN_FIFO_DONE && serves(EVTCHN_FIFO_HANDED_OVER, 5) && serves(EVTCHN_FIFO_HANDED_OVER, 6));
 }
 
@@ -140,7 +123,7 @@ static void second_call(void)
     begin(2);
     next = evtchn_fifo_domain_raise(&w.domain, ledger, WORLD_ENTRIES, 5);
     CHECK(raise_port(6) == EVTCHN_FIFO_CALL_UNDER_WAY);
-    CHECK(evtchn_fifo_run(&w.domain, ledger, WORLD_ENTRIES, &w.shared, next).code == EVTCHN_FIFO_UPCALL_WANTED);
+    CHECK(run(next) == EVTCHN_FIFO_UPCALL_WANTED);
 }
 
 /* A raise whose access of that number, from 1 on, is made twice: its answer. */
@@ -216,7 +199,7 @@ static void no_entry(void)
     CHECK(evtchn_fifo_domain_reply(&w.domain, ledger, 5, seen).code == EVTCHN_FIFO_NO_ENTRY);
     CHECK(evtchn_fifo_domain_under_way(&w.domain) == EVTCHN_FIFO_RAISE);
     next = evtchn_fifo_domain_reply(&w.domain, ledger, WORLD_ENTRIES, seen);
-    CHECK(evtchn_fifo_run(&w.domain, ledger, WORLD_ENTRIES, &w.shared, next).code == EVTCHN_FIFO_UPCALL_WANTED);
+    CHECK(run(next) == EVTCHN_FIFO_UPCALL_WANTED);
     CHECK(serves(EVTCHN_FIFO_HANDED_OVER, 5));
 }
 
@@ -272,7 +255,7 @@ static void handed_over_while_linked(void)
     CHECK(evtchn_fifo_perform(&w.shared, raise, &seen));
     raise = evtchn_fifo_domain_reply(&w.domain, ledger, WORLD_ENTRIES, seen);
     CHECK(evtchn_fifo_serve_on(&w.guest, &w.shared).code == EVTCHN_FIFO_HANDED_OVER);
-    CHECK(evtchn_fifo_run(&w.domain, ledger, WORLD_ENTRIES, &w.shared, raise).code == EVTCHN_FIFO_UPCALL_WANTED);
+    CHECK(run(raise) == EVTCHN_FIFO_UPCALL_WANTED);
     CHECK(serves(EVTCHN_FIFO_TAKEN, 5) && serve() == EVTCHN_FIFO_NOTHING_READY);
 }
 

@@ -101,7 +101,7 @@ static uint32_t *words_of(int which) { return (uint32_t *)(void *)areas[which].l
 
 static void begin(void)
 {
-    position = evtchn_replay_start(areas[DOMAIN].lent, areas[LEDGER].lent, areas[LEDGER].size, areas[GUEST].lent, words_of(ARRAY),
+    position = evtchn_replay_bytes_start(areas[DOMAIN].lent, areas[LEDGER].lent, areas[LEDGER].size, areas[GUEST].lent, words_of(ARRAY),
                                    areas[ARRAY].size / 4, words_of(BLOCK), areas[DUE].lent);
 }
 
@@ -111,7 +111,7 @@ static void feed(const char *text, size_t length)
     uint8_t *piece = text == NULL ? NULL : text_end - length;
     if (length > 0)
         memcpy(piece, text, length);
-    position = evtchn_replay_feed(position, areas[DOMAIN].lent, areas[LEDGER].lent, areas[LEDGER].size, areas[GUEST].lent, words_of(ARRAY),
+    position = evtchn_replay_bytes_feed(position, areas[DOMAIN].lent, areas[LEDGER].lent, areas[LEDGER].size, areas[GUEST].lent, words_of(ARRAY),
                                   areas[ARRAY].size / 4, words_of(BLOCK), areas[LINE].lent, areas[DUE].lent, piece, length);
 }
 
@@ -131,7 +131,7 @@ static void play_whole(const char *log) { play(log, strlen(log), TEXT_BYTES); }
 
 static int reports(uint32_t kind, uint64_t line)
 {
-    evtchn_replay_result result = evtchn_replay_report(position);
+    evtchn_replay_result result = evtchn_replay_bytes_report(position);
     int holds = result.kind == kind && result.line == line;
     if (!holds)
         printf("kind %u, line %llu\n", (unsigned)result.kind, (unsigned long long)result.line);
@@ -494,7 +494,7 @@ static int survives(unsigned seed)
     set_junk_position();
     keep(&stopped);
     feed(good + from, length);
-    result = evtchn_replay_report(position);
+    result = evtchn_replay_bytes_report(position);
     if (stopped.position.stop != 0)
         return is_all_kept(&stopped) && result.kind == stopped.position.stop && is_around_kept();
     return position.lines >= stopped.position.lines && result.line >= position.lines && is_around_kept();

@@ -15,8 +15,8 @@ abbrev μ-loop : tie.MeasureT-loop
 large-buffer-requires : tie.Need-large-buffer-requires Inv-loop μ-loop
 large-buffer-requires c κs = search needs
 
-evtchn-replay-start-requires : tie.Need-evtchn-replay-start-requires Inv-loop μ-loop
-evtchn-replay-start-requires c κs = search needs
+evtchn-replay-bytes-start-requires : tie.Need-evtchn-replay-bytes-start-requires Inv-loop μ-loop
+evtchn-replay-bytes-start-requires c κs = search needs
 
 loop-holds : tie.Need-loop-holds Inv-loop μ-loop
 loop-holds c = (refl, refl, search needs)
@@ -30,11 +30,11 @@ read-full-requires c κs = search needs
 array-share-prefix-space : tie.Need-array-share-prefix-space Inv-loop μ-loop
 array-share-prefix-space c = search needs
 
-slice-aggregate-evtchn-replay-feed : tie.Need-slice-aggregate-evtchn-replay-feed Inv-loop μ-loop
-slice-aggregate-evtchn-replay-feed c = search needs
+slice-aggregate-evtchn-replay-bytes-feed : tie.Need-slice-aggregate-evtchn-replay-bytes-feed Inv-loop μ-loop
+slice-aggregate-evtchn-replay-bytes-feed c = search needs
 
-evtchn-replay-feed-requires : tie.Need-evtchn-replay-feed-requires Inv-loop μ-loop
-evtchn-replay-feed-requires c κs = search needs
+evtchn-replay-bytes-feed-requires : tie.Need-evtchn-replay-bytes-feed-requires Inv-loop μ-loop
+evtchn-replay-bytes-feed-requires c κs = search needs
 
 count-requires : tie.Need-count-requires Inv-loop μ-loop
 count-requires c κs = search needs
@@ -70,13 +70,13 @@ play-spec =
     Inv-loop
     μ-loop
     large-buffer-requires
-    evtchn-replay-start-requires
+    evtchn-replay-bytes-start-requires
     loop-holds
     slice-aggregate-read-full
     read-full-requires
     array-share-prefix-space
-    slice-aggregate-evtchn-replay-feed
-    evtchn-replay-feed-requires
+    slice-aggregate-evtchn-replay-bytes-feed
+    evtchn-replay-bytes-feed-requires
     count-requires
     turns-left-requires
     loop-less

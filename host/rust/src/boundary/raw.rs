@@ -73,7 +73,7 @@ extern "C" {
     pub fn evtchn_fifo_mask(port: u64, words: u64) -> Encoded;
     pub fn evtchn_fifo_bytes_clear_mask(guest: *mut u8, length: usize, port: u64) -> Encoded;
     pub fn evtchn_fifo_bytes_tell(guest: *mut u8, length: usize, words: u64) -> Encoded;
-    pub fn evtchn_replay_start(
+    pub fn evtchn_replay_bytes_start(
         domain: *mut u8,
         ledger: *mut u8,
         ledger_bytes: usize,
@@ -83,7 +83,7 @@ extern "C" {
         block: *mut u32,
         due: *mut u8,
     ) -> Position;
-    pub fn evtchn_replay_feed(
+    pub fn evtchn_replay_bytes_feed(
         position: Position,
         domain: *mut u8,
         ledger: *mut u8,
@@ -97,7 +97,7 @@ extern "C" {
         text: *const u8,
         text_length: usize,
     ) -> Position;
-    pub fn evtchn_replay_report(position: Position) -> Report;
+    pub fn evtchn_replay_bytes_report(position: Position) -> Report;
     pub fn evtchn_cables_bytes_lay(
         table: *mut u8,
         table_length: usize,
@@ -205,8 +205,9 @@ mod tests {
         let (ledger, words) = (null_mut(), null_mut());
         // SAFETY: the arrays are lent, the slices have nothing.
         let position = unsafe {
-            let position = evtchn_replay_start(domain, ledger, 0, guest, words, 0, block, due);
-            evtchn_replay_feed(
+            let position =
+                evtchn_replay_bytes_start(domain, ledger, 0, guest, words, 0, block, due);
+            evtchn_replay_bytes_feed(
                 position,
                 domain,
                 ledger,
@@ -243,10 +244,12 @@ mod tests {
         let codes = [(40, 0), (0, 40), (40, 40), (3, 3), (0, 1)].map(|(a, b)| lay(a, b).code);
         assert_eq!(codes, [23, 23, 23, 24, 64]);
         // SAFETY: no bytes are lent.
-        let cut = |number| unsafe { evtchn_cables_bytes_cut(table, 0, none, 0, none, 0, number, 5) };
+        let cut =
+            |number| unsafe { evtchn_cables_bytes_cut(table, 0, none, 0, none, 0, number, 5) };
         assert_eq!([40, 39].map(cut), [23, 64]);
         // SAFETY: no bytes are lent.
-        let send = |number| unsafe { evtchn_cables_bytes_send(none, 0, none, 0, none, 0, number, 5, 0) };
+        let send =
+            |number| unsafe { evtchn_cables_bytes_send(none, 0, none, 0, none, 0, number, 5, 0) };
         assert_eq!([40, 39].map(|number| send(number).code), [23, 64]);
         // SAFETY: no bytes are lent.
         let given = unsafe {

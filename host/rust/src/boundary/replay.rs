@@ -63,7 +63,7 @@ impl Lent<'_> {
     pub fn start(&mut self) -> Position {
         // SAFETY: all is lent for the call, and none of it overlaps.
         unsafe {
-            raw::evtchn_replay_start(
+            raw::evtchn_replay_bytes_start(
                 self.domain.as_mut_ptr(),
                 self.ledger.as_mut_ptr(),
                 self.ledger.len(),
@@ -81,7 +81,7 @@ impl Lent<'_> {
     pub fn feed(&mut self, position: Position, text: &[u8]) -> Position {
         // SAFETY: all is lent for the call, and none of it overlaps.
         unsafe {
-            raw::evtchn_replay_feed(
+            raw::evtchn_replay_bytes_feed(
                 position,
                 self.domain.as_mut_ptr(),
                 self.ledger.as_mut_ptr(),
@@ -114,6 +114,6 @@ impl Position {
     #[inline]
     pub fn report(self) -> Report {
         // SAFETY: takes numbers only.
-        unsafe { raw::evtchn_replay_report(self) }
+        unsafe { raw::evtchn_replay_bytes_report(self) }
     }
 }

@@ -1,9 +1,9 @@
--- `replay::player::evtchn_replay_start` meets its contract. Assumes nothing.
+-- `replay::player::evtchn_replay_bytes_start` meets its contract. Assumes nothing.
 use Rattle.replay.proofs.StartLaws.{started}
 use Rattle.replay.proofs.DueLaws.{line-put}
 use borrow.Author.Needs.{needs}
-use Rattle.replay.proofs.player.evtchn_replay_start.Statement.{statement}
-use Rattle.replay.proofs.player.evtchn_replay_start.Tie as tie
+use Rattle.replay.proofs.player.evtchn_replay_bytes_start.Statement.{statement}
+use Rattle.replay.proofs.player.evtchn_replay_bytes_start.Tie as tie
 
 evtchn-fifo-bytes-fresh-domain-requires : tie.Need-evtchn-fifo-bytes-fresh-domain-requires
 evtchn-fifo-bytes-fresh-domain-requires c κs = search needs
@@ -32,8 +32,8 @@ same-length-2 c = search needs
 returns : tie.Need-returns
 returns c = started _ _ _ (search needs) (search needs) _ _ _ _ (c .before .before .before .before .before .before .before .before .before .before .before .before .before .before .before .before .before .before .args .block .now) _ _ _ _ _ _ _ (c .before .before .before .before .before .before .before .before .before .before .before .before .before .before .evtchn-fifo-bytes-fresh-domain .ensures) (c .before .before .before .before .before .before .before .before .before .before .before .before .evtchn-fifo-bytes-fresh-ledger .ensures) (c .before .before .before .before .before .before .before .before .evtchn-fifo-bytes-fresh-guest .ensures) (c .before .before .before .before .before .before .zero .ensures) (search needs) (c .before .before .zero2 .ensures) (line-put _ _ _ _ (search needs) (c .put-line .ensures))
 
-pub evtchn-replay-start-spec : {M : Type 1} → statement M
-evtchn-replay-start-spec =
+pub evtchn-replay-bytes-start-spec : {M : Type 1} → statement M
+evtchn-replay-bytes-start-spec =
     tie.close
     (tie.spec
     evtchn-fifo-bytes-fresh-domain-requires
