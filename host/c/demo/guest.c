@@ -20,8 +20,10 @@
 /* Services of a guest once no more is raised: a right library leaves far fewer to make. A wrong one may leave a ring of ports. */
 #define MOST_LAST_SERVICES 1000u
 
-/* A hostile guest's writes to one word between two pauses. */
+/* A hostile guest's writes to one word between two pauses, and the nanoseconds of a pause with so many domains or fewer. */
 #define WRITES 1000u
+#define PAUSE 50000
+#define USUAL_DOMAINS 40u
 
 /* Ports that a guest has masked and wants unmasked before it waits. */
 typedef struct masked_ports {
@@ -160,9 +162,10 @@ void *guest_run(void *argument)
     return NULL;
 }
 
-static void pause_a_little(void)
+/* The longer the more domains there are: hostile guests' threads are always at work, and many of them would leave the others no time. */
+static void pause_a_little(const host *h)
 {
-    struct timespec time = {0, 50000};
+    struct timespec time = {0, PAUSE * (h->count < USUAL_DOMAINS ? 1 : h->count / USUAL_DOMAINS)};
     nanosleep(&time, NULL);
 }
 
@@ -176,7 +179,7 @@ void *hostile_run(void *argument)
         if (random_below(&random, HOSTILE_SENDS_ONE_IN) == 0)
             ask_for_send(self, ports[random_below(&random, PORTS)]);
         if (answer == EVTCHN_FIFO_NOTHING_READY)
-            pause_a_little();
+            pause_a_little(self->host);
     }
     pthread_barrier_wait(&self->host->guests_ended);
     return NULL;
@@ -216,7 +219,7 @@ void *hostile_write_run(void *argument)
             write_anything(self->domain, &random);
         else
             write_one_word(self->domain, &random);
-        pause_a_little();
+        pause_a_little(self->host);
     }
     return NULL;
 }
