@@ -304,8 +304,8 @@ static int comes_through(uint32_t number, uint32_t port, uint32_t far_port)
     if (far.code != 0 || far.domain != 1 - number || far.port != far_port || far.slot != 0)
         return 0;
     next = run(far.domain, world_raise_start(w, far.port));
-    return is_same(next, result_of(1, 0, 4, 0)) && w->page[far_port] == 0xA0000000u && w->control.ready == 0x80 && w->control.head[7] == far_port &&
-           is_same(world_service(w), result_of(19, far_port, 5, 0)) && w->page[far_port] == 0;
+    return is_same(next, result_of(1, 0, 4, 0)) && w->page[far_port] == 0xA0000000u && w->control.ready == 0x80 &&
+           w->control.head[7] == far_port && is_same(world_service(w), result_of(19, far_port, 5, 0)) && w->page[far_port] == 0;
 }
 
 static int is_table_empty(void)
@@ -362,6 +362,18 @@ static void typed_close_row(void)
                                         result_of(0, 0, 1, 0)));
 }
 
+/* A plain close leaves the cable, which serves whoever binds the port next; a whole close by evtchn_cables_run cuts it. */
+static void plain_close_row(void)
+{
+    begin_worlds();
+    CHECK(evtchn_cables_lay(&cables, end_at(0, 5), end_at(1, 9)).code == 0);
+    CHECK(world_close(&worlds[0], 5).code == 0 && !is_table_empty());
+    CHECK(evtchn_cables_send(&cables, end_at(0, 5), 0).code == 4);
+    CHECK(world_bind(&worlds[0], 5).code == 0 && comes_through(0, 5, 9));
+    CHECK(evtchn_cables_run(&cables, 0, &worlds[0].domain, worlds[0].ledger, WORLD_ENTRIES, &worlds[0].shared, close_at(0, 5)).code == 0);
+    CHECK(is_table_empty() && evtchn_fifo_domain_under_way(&worlds[0].domain) == EVTCHN_FIFO_IDLE);
+}
+
 static void rows(void)
 {
     close_outside();
@@ -382,5 +394,6 @@ int main(void)
     much_longer_row();
     typed_rows();
     typed_close_row();
+    plain_close_row();
     return check_end();
 }
