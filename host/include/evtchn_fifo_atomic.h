@@ -216,7 +216,8 @@ EVTCHN_FIFO_INLINE evtchn_fifo_outcome evtchn_fifo_outcome_of(evtchn_fifo_next n
  *     raised = evtchn_fifo_run(&domain, ledger, entries, &shared, evtchn_fifo_domain_raise(&domain, ledger, entries, port));
  *
  * An answer leaves the record IDLE, but for CALL_UNDER_WAY, where under_way is the other call. After NOT_MAPPED the call stands, and every
- * other gets CALL_UNDER_WAY: map the access, and go on from evtchn_fifo_domain_due(&domain) in place of the start.
+ * other gets CALL_UNDER_WAY: map the access, and go on from evtchn_fifo_domain_due(&domain) in place of the start. The ledger has no fewer
+ * entries than at the start: a reply that is refused with NO_ENTRY wants its word again, which is not kept here.
  */
 EVTCHN_FIFO_USED EVTCHN_FIFO_INLINE evtchn_fifo_outcome evtchn_fifo_run(evtchn_fifo_domain *domain, uint16_t *ledger, size_t entries,
                                                                         const evtchn_fifo_shared *shared, evtchn_fifo_next start)
