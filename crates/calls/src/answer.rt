@@ -5,7 +5,7 @@ ghost use Rattle.calls.specs.Answers.{plain, code_of};
 use crate::types::Answer;
 
 // An answer's number, and the value it carries: the port of 19 and 21, the link bits of init_control's 0, else 0.
-#[derive(Drop)]
+#[derive(Clone, Copy)]
 pub struct Code {
     pub number: u32,
     pub value: u32,

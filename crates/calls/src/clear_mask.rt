@@ -8,7 +8,7 @@ use crate::{guest, records};
 use word::{Flag, Port};
 
 // All that a clear_mask's reply changes: its call; and the answer with its count where it ends.
-#[derive(Drop)]
+#[derive(Clone, Copy)]
 pub struct ClearMove {
     pub call: ClearCall,
     pub answer: Answer,
@@ -53,7 +53,7 @@ pub fn reply_read(call: ClearCall, seen: u32) -> ClearMove
         return clear_ends(Answer::CallUnmask, call.count);
     }
     let port = call.port;
-    let count = records::one_more_lem(call.count);
+    let count = records::one_more(call.count);
     let next = records::clear_at(ClearStage::Cas, port, seen, count);
     clear_goes_on(next)
 }

@@ -11,7 +11,7 @@ use word::{Flag, Port, Queue};
 
 // All that a service's reply changes: one queue's head H (none where the queue is 16), the local bits, the call; and the
 // answer with its count where the service ends.
-#[derive(Drop)]
+#[derive(Clone, Copy)]
 pub struct GuestMove {
     pub queue: Queue,
     pub head: u32,
@@ -67,7 +67,7 @@ pub fn guest_ends(ready: u32, answer: Answer, count: u32) -> GuestMove
 pub fn guest_named(call: GuestCall, stage: GuestStage, port: Port, queue: Queue) -> GuestCall
     ensures { result ≡ guest_named call stage port queue }
 {
-    let count = records::one_more_lem(call.count);
+    let count = records::one_more(call.count);
     records::guest_call_at(stage, port, queue, count)
 }
 

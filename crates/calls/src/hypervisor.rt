@@ -101,7 +101,7 @@ pub fn expand_array(domain: Domain, frame: u64, frames: u64) -> Outcome
         Acceptance::Refused(answer) => answered(domain, answer),
         Acceptance::Accepted => {
             let tails = domain.tails;
-            let pages = records::one_more_lem(domain.pages);
+            let pages = records::one_more(domain.pages);
             let larger = Domain {
                 given: domain.given,
                 pages: pages,

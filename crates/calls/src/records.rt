@@ -10,14 +10,14 @@ use crate::types::{
 use word::{Port, Queue};
 
 // A ledger's entry for a port.
-#[derive(Drop)]
+#[derive(Clone, Copy)]
 pub enum Lookup {
     Found(u16),
     Missing,
 }
 
 // A count that stays where it can't move further.
-pub fn one_more_lem(count: u32) -> u32
+pub fn one_more(count: u32) -> u32
     ensures { result ≡ one_more count }
 {
     if count < 0xFFFF_FFFF {

@@ -8,7 +8,7 @@ use script::{is, place, small, word};
 use word::Port;
 
 // A domain, what the last call or reply came to, and whether all that was expected held.
-#[derive(Drop)]
+#[derive(Clone, Copy)]
 struct Held {
     domain: Domain,
     next: Next,

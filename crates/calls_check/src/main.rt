@@ -1,6 +1,8 @@
 // Tests of the calls against numbers worked by hand, from the script on standard input: a line for each test, then their
 // number. The names are those of the readings of document 01, A1 (refusals), A2 (counts), A3 (hypervisor), A4 (guest),
 // A5 (arbitrary records), and of document 02, T-05 (BUSY and clear_mask).
+#![tactic(auto)]
+
 mod compare;
 mod domain;
 mod expect;
@@ -43,7 +45,7 @@ fn main() {
     let mut turns: u32 = 1000;
     while turns > 0 && kind != 0 {
         if kind == 1 {
-            tests = calls::records::one_more_lem(tests);
+            tests = calls::records::one_more(tests);
         }
         kind = next();
         turns -= 1;

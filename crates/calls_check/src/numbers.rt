@@ -3,7 +3,7 @@ use calls::types::{Access, Answer, Next, Place};
 use script::{name, place, small, word};
 
 // An access: its kind, its place's kind and index, its old word and operand. An answer: its number, value and count.
-#[derive(Drop)]
+#[derive(Clone, Copy)]
 pub(crate) struct Numbers {
     pub kind: u32,
     pub place: u32,

@@ -5,7 +5,7 @@ use calls::{hypervisor, records};
 use script::{number, place, small, word};
 use word::{Port, Priority};
 
-#[derive(Drop)]
+#[derive(Clone, Copy)]
 pub(crate) struct State {
     pub domain: Domain,
     pub ledger: [u16; 16],

@@ -5,21 +5,21 @@ use script::{is, name, number, place, small};
 use word::{Port, Priority, Queue};
 
 // How a step is made: with no line in the log; with all further accesses of a side's call, up to an answer.
-#[derive(Drop)]
+#[derive(Clone, Copy)]
 pub(crate) struct Manner {
     pub silent: bool,
     pub whole: bool,
     pub side: Side,
 }
 
-#[derive(Drop)]
+#[derive(Clone, Copy)]
 pub(crate) struct Plan {
     pub step: Step,
     pub manner: Manner,
 }
 
 // A raise at R5 or a service at G3 with any count is put under way; the log's end, also at an unknown name.
-#[derive(Drop)]
+#[derive(Clone, Copy)]
 pub(crate) enum Put {
     Raise(Port, Queue, u32),
     Service(Port, Queue, u32),
@@ -27,7 +27,7 @@ pub(crate) enum Put {
 }
 
 // A step; a step with a ledger of one entry; what needs none.
-#[derive(Drop)]
+#[derive(Clone, Copy)]
 pub(crate) enum Command {
     Take(Plan),
     Short(Plan),
@@ -35,7 +35,7 @@ pub(crate) enum Command {
 }
 
 // A call's start, or another name.
-#[derive(Drop)]
+#[derive(Clone, Copy)]
 enum Call {
     Start(Step, Side),
     Other,

@@ -7,7 +7,7 @@ use crate::command;
 use crate::command::{Command, Manner, Plan, Put};
 use crate::driver::output::{Tally, print_line, print_reply, print_tally, with_answer};
 use crate::driver::run::{Run, after, ended, fresh, is_busy, raising, serving};
-use log::line::Line;
+use access_log::line::Line;
 use machine::types::Sides;
 
 fn take(sides: Sides, ledger: &mut [u16], words: &mut [u32], block: &mut [u32], plan: Plan) -> Run {

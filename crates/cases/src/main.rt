@@ -1,5 +1,7 @@
 // Runs the logs of the script on standard input: C1 to C12, the paths that they leave out, the edges. Prints each whole
 // access log after its title, then a summary line with the counts of its answers in their order.
+#![tactic(auto)]
+
 mod command;
 mod driver;
 

@@ -11,7 +11,7 @@ use evtchn_fifo::{layout, numbers};
 
 // What a lay comes to: 0 with the slot of the new cable, or a refusal.
 #[repr(C)]
-#[derive(Drop)]
+#[derive(Clone, Copy)]
 pub struct Laid {
     pub code: u32,
     pub slot: u32,
@@ -19,7 +19,7 @@ pub struct Laid {
 
 // What a send comes to: 0 with the far end, whose domain is to raise the port, and the cable's slot; or a refusal.
 #[repr(C)]
-#[derive(Drop)]
+#[derive(Clone, Copy)]
 pub struct Far {
     pub code: u32,
     pub domain: u32,

@@ -13,7 +13,7 @@ use calls::{clear_mask, records};
 use word::Port;
 
 // A clear_mask goes on with an access.
-fn goes_on_lem(guest: &mut [u8], call: ClearCall, access: Access) -> PackedNext
+fn goes_on(guest: &mut [u8], call: ClearCall, access: Access) -> PackedNext
     requires { guest_size ≤ length guest.old }
     ensures { wrote (unpacked result) guest.new ≡ wrote (encoded_access access) (put_clear guest.old call) }
 {
@@ -45,7 +45,7 @@ pub extern "C" fn evtchn_fifo_bytes_clear_mask(guest: &mut [u8], port: u64) -> P
         return encoded::encoded_answer(Answer::OutsideArray, 0);
     }
     let first = records::clear_at(ClearStage::Read, Port(number), 0, 1);
-    goes_on_lem(guest, first, Access::Read(Place::Word(Port(number))))
+    goes_on(guest, first, Access::Read(Place::Word(Port(number))))
 }
 
 // The clear_mask's reply; one that ends leaves its other words.
@@ -60,7 +60,7 @@ fn clear_reply(guest: &mut [u8], seen: u32) -> PackedNext
     let clearing = records::is_clearing(stage);
     if clearing {
         let access = clear_mask::clear_access(after);
-        return goes_on_lem(guest, after, access);
+        return goes_on(guest, after, access);
     }
     let answer = step.answer;
     numbers::put_u32(guest, layout::CLEAR_STAGE, 0);

@@ -7,7 +7,7 @@ use calls::types::{Access, Answer, Masking, Place};
 // C's four numbers of 32 bits, code, index, value and old, in two of 64, the first of each pair in the lower half: the calling
 // convention returns both structs in the same two registers, and this one takes fewer instructions to fill.
 #[repr(C)]
-#[derive(Drop)]
+#[derive(Clone, Copy)]
 pub struct PackedNext {
     pub first: u64,
     pub second: u64,

@@ -60,7 +60,7 @@ pub extern "C" fn evtchn_fifo_bytes_service(guest: &mut [u8]) -> PackedNext
         return encoded::encoded_answer(Answer::CallUnderWay, 0);
     }
     let first = records::guest_call_at(GuestStage::G0, Port(0), Queue(0), 1);
-    goes_on_lem(guest, first, Access::Swap(Place::Ready, 0))
+    goes_on(guest, first, Access::Swap(Place::Ready, 0))
 }
 
 // The service ends; its other words stay.
@@ -73,7 +73,7 @@ fn ends(guest: &mut [u8], answer: Answer, count: u32) -> PackedNext
 }
 
 // It goes on with an access.
-fn goes_on_lem(guest: &mut [u8], call: GuestCall, access: Access) -> PackedNext
+fn goes_on(guest: &mut [u8], call: GuestCall, access: Access) -> PackedNext
     requires { guest_size ≤ length guest.old }
     ensures { wrote (unpacked result) guest.new ≡ wrote (encoded_access access) (put_service guest.old call) }
 {
@@ -115,7 +115,7 @@ fn takes_index(
     let next = calls::guest::guest_named(call, GuestStage::G2, Port(index), queue);
     let operand = word::event::unlink_operand();
     numbers::put_u32(guest, layout::READY, ready);
-    goes_on_lem(guest, next, Access::And(Place::Word(Port(index)), operand))
+    goes_on(guest, next, Access::And(Place::Word(Port(index)), operand))
 }
 
 // G0: local bits are added; none gives 20. The lowest set bit is the queue: G1 where its H is 0.
@@ -136,7 +136,7 @@ fn reply_g0(guest: &mut [u8], call: GuestCall, seen: u32) -> PackedNext
     if empty {
         let next = calls::guest::guest_named(call, GuestStage::G1, Port(0), queue);
         numbers::put_u32(guest, layout::READY, local);
-        return goes_on_lem(guest, next, Access::Read(Place::Head(queue)));
+        return goes_on(guest, next, Access::Read(Place::Head(queue)));
     }
     takes_index(guest, call, local, queue, head)
 }
@@ -166,10 +166,10 @@ fn reply_g2(guest: &mut [u8], call: GuestCall, seen: u32) -> PackedNext
         let local = word::ready::cleared(ready, queue);
         numbers::put_u32(guest, layout::READY, local);
         numbers::put_value(guest, layout::HEADS, queue, 0);
-        return goes_on_lem(guest, next, Access::Read(Place::Word(port)));
+        return goes_on(guest, next, Access::Read(Place::Word(port)));
     }
     numbers::put_value(guest, layout::HEADS, queue, link.0);
-    goes_on_lem(guest, next, Access::Read(Place::Word(port)))
+    goes_on(guest, next, Access::Read(Place::Word(port)))
 }
 
 // G3: pending and not masked goes on at G4; else 21.
@@ -189,7 +189,7 @@ fn reply_g3(guest: &mut [u8], call: GuestCall, seen: u32) -> PackedNext
     }
     let next = calls::guest::guest_named(call, GuestStage::G4, port, queue);
     let operand = word::event::all_but(Flag::Pending);
-    goes_on_lem(guest, next, Access::And(Place::Word(port), operand))
+    goes_on(guest, next, Access::And(Place::Word(port), operand))
 }
 
 // G4: 19 if the port was still pending, else 21.

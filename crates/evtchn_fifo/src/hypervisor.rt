@@ -95,7 +95,7 @@ pub extern "C" fn evtchn_fifo_bytes_expand_array(
     match start::accept_expand(owner, given, pages, frame, frames) {
         Acceptance::Refused(answer) => encoded::encoded_answer(answer, 0),
         Acceptance::Accepted => {
-            let more = records::one_more_lem(pages);
+            let more = records::one_more(pages);
             numbers::put_u32(domain, layout::PAGES, more);
             encoded::encoded_answer(Answer::Done, 0)
         }

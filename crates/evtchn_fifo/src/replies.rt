@@ -28,7 +28,7 @@ fn ends(domain: &mut [u8], answer: Answer, count: u32) -> PackedNext
 }
 
 // It goes on with an access.
-fn goes_on_lem(domain: &mut [u8], call: Call, access: Access) -> PackedNext
+fn goes_on(domain: &mut [u8], call: Call, access: Access) -> PackedNext
     requires { (domain_size ≤ length domain.old) × (is_free (call_at domain.old).owner ≡ false) }
     ensures { wrote (unpacked result) domain.new ≡ wrote (encoded_access access) (put_call domain.old (under_way (call_at domain.old) call)) }
 {
@@ -44,7 +44,7 @@ fn to_r2(domain: &mut [u8]) -> PackedNext
     let port = call.port;
     let next = stage::named(call, Stage::R2, Queue(0));
     let operand = word::event::mask(Flag::Linked);
-    goes_on_lem(domain, next, Access::Or(Place::Word(port), operand))
+    goes_on(domain, next, Access::Or(Place::Word(port), operand))
 }
 
 fn to_r5(domain: &mut [u8], queue: Queue) -> PackedNext
@@ -54,7 +54,7 @@ fn to_r5(domain: &mut [u8], queue: Queue) -> PackedNext
     let call = domain_record::call_at(domain);
     let port = call.port;
     let next = stage::named(call, Stage::R5, queue);
-    goes_on_lem(domain, next, Access::Store(Place::Head(queue), port.0))
+    goes_on(domain, next, Access::Store(Place::Head(queue), port.0))
 }
 
 // R1: masked or linked ends the call; else R2.
@@ -197,7 +197,7 @@ fn from_r2(domain: &mut [u8], queue: Queue) -> PackedNext
         return to_r5(domain, queue);
     }
     let next = stage::named(call, Stage::R3, queue);
-    goes_on_lem(domain, next, Access::Read(Place::Word(Port(tail))))
+    goes_on(domain, next, Access::Read(Place::Word(Port(tail))))
 }
 
 // A cas of the tail's word is named; tries counts the cas named, with this one.
@@ -211,7 +211,7 @@ fn to_r4(domain: &mut [u8], tries: u32, word: u32) -> PackedNext
     let next = stage::comparing(call, tries, word);
     let tail = numbers::value_at(domain, layout::TAILS, queue);
     let new = stage::linking_word(word, port);
-    goes_on_lem(
+    goes_on(
         domain,
         next,
         Access::Cas(Place::Word(Port(tail)), word, new),
@@ -228,7 +228,7 @@ fn to_clear_busy(domain: &mut [u8], word: u32) -> PackedNext
     let next = stage::clearing(call, word);
     let tail = numbers::value_at(domain, layout::TAILS, queue);
     let operand = word::event::all_but(Flag::Busy);
-    goes_on_lem(domain, next, Access::And(Place::Word(Port(tail)), operand))
+    goes_on(domain, next, Access::And(Place::Word(Port(tail)), operand))
 }
 
 // The call ends, and its port is its queue's tail.
@@ -271,7 +271,7 @@ fn after_first_cas(domain: &mut [u8], seen: u32) -> PackedNext
     let next = stage::named(call, Stage::SetBusy, queue);
     let tail = numbers::value_at(domain, layout::TAILS, queue);
     let operand = word::event::mask(Flag::Busy);
-    goes_on_lem(domain, next, Access::Or(Place::Word(Port(tail)), operand))
+    goes_on(domain, next, Access::Or(Place::Word(Port(tail)), operand))
 }
 
 // A later one is not taken: BUSY is cleared where the word seen lacks LINKED and after the fifth cas; else another cas.
@@ -347,7 +347,7 @@ fn reply_r5(domain: &mut [u8]) -> PackedNext
     numbers::put_value(domain, layout::TAILS, queue, port.0);
     let next = stage::named(call, Stage::R6, queue);
     let operand = word::ready::ready_mask(queue);
-    goes_on_lem(domain, next, Access::Or(Place::Ready, operand))
+    goes_on(domain, next, Access::Or(Place::Ready, operand))
 }
 
 // R6: an upcall is wanted if the bit was clear.

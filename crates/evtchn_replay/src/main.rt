@@ -1,6 +1,8 @@
 // Plays the log that the first argument names, or standard input, over as many pages as the second says (128 at most, and where
 // there is none) and a ledger for every port, and prints the report in one line; where a line differs, what the log has and what
 // was due in two more.
+#![tactic(auto)]
+
 mod print;
 
 ghost use Rattle.std.specs.Prelude.{◌≤◌, ◌<◌};

@@ -31,11 +31,11 @@ use Rattle.machine.specs.declared.types.GuestStart.TheVariants as guest_start
 use Rattle.machine.specs.declared.types.Step.TheVariants as step
 use Rattle.machine.specs.Memory.{memory, Performed, did, performed, zero_page}
 use Rattle.machine.specs.Exec.{World, Stepped, exec, list_of, hypervisor_answer}
-use Rattle.log.specs.declared.line.Line.{Line}
-use Rattle.log.specs.declared.line.LoggedCall.{LoggedCall}
-use Rattle.log.specs.declared.line.LoggedCall.TheVariants as call
-use Rattle.log.specs.Line.{LegalCall, bytes_of}
-use Rattle.log.specs.Event.{access_line, answer_line, line_of}
+use Rattle.access_log.specs.declared.line.Line.{Line}
+use Rattle.access_log.specs.declared.line.LoggedCall.{LoggedCall}
+use Rattle.access_log.specs.declared.line.LoggedCall.TheVariants as call
+use Rattle.access_log.specs.Line.{LegalCall, bytes_of}
+use Rattle.access_log.specs.Event.{access_line, answer_line, line_of}
 use Rattle.evtchn_fifo.specs.Encoded.{EncodedNext, Wrote, wrote, encoded_masking, encoded_answer, encoded_access}
 use Rattle.evtchn_fifo.specs.DomainRecord.{domain_size, domain_at, pages_at, pages_in}
 use Rattle.evtchn_fifo.specs.GuestRecord.{guest_size, words_at, words_in}

@@ -11,16 +11,16 @@ use borrow.Author.Tests.{ne_eqb}
 use Rattle.machine.specs.declared.types.Side.{Side}
 use Rattle.machine.specs.declared.types.Side.TheVariants as side
 use Rattle.machine.specs.Exec.{World}
-use Rattle.log.specs.declared.line.Line.{Line}
-use Rattle.log.specs.declared.line.Line.TheVariants as line
-use Rattle.log.specs.declared.read.Found.{Found}
-use Rattle.log.specs.declared.read.Found.TheVariants as found
-use Rattle.log.specs.Line.{bytes_of}
-use Rattle.log.specs.Event.{code_line}
-use Rattle.log.specs.Read.{read_line}
-use Rattle.log.specs.Text.{text, with_bytes, same}
-use Rattle.log.proofs.TextLaws.{Holds, holds}
-use Rattle.log.proofs.LengthLaws.{line_fits, line_some}
+use Rattle.access_log.specs.declared.line.Line.{Line}
+use Rattle.access_log.specs.declared.line.Line.TheVariants as line
+use Rattle.access_log.specs.declared.read.Found.{Found}
+use Rattle.access_log.specs.declared.read.Found.TheVariants as found
+use Rattle.access_log.specs.Line.{bytes_of}
+use Rattle.access_log.specs.Event.{code_line}
+use Rattle.access_log.specs.Read.{read_line}
+use Rattle.access_log.specs.Text.{text, with_bytes, same}
+use Rattle.access_log.proofs.TextLaws.{Holds, holds}
+use Rattle.access_log.proofs.LengthLaws.{line_fits, line_some}
 use Rattle.evtchn_fifo.specs.Encoded.{EncodedNext}
 use Rattle.replay.specs.declared.player.Position.{Position}
 use Rattle.replay.specs.Replay.{playing, next_line}

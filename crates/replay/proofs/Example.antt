@@ -4,10 +4,10 @@ use mathlib.Core.Path.{refl}
 use lib.Dec.{lit≤}
 use Rattle.calls.specs.Answers.{code_of}
 use Rattle.machine.specs.Computes.{runs}
-use Rattle.log.specs.Line.{digit, digits, places, decimal, hex8, side_of, place_of, row, access_bytes, call_bytes, bytes_of, LegalCall}
-use Rattle.log.specs.Event.{seen_in, access_line, answer_line, line_of}
-use Rattle.log.specs.Text.{same}
-use Rattle.log.specs.Read.{field, after, value_from, value, guess_from, guess, read_line}
+use Rattle.access_log.specs.Line.{digit, digits, places, decimal, hex8, side_of, place_of, row, access_bytes, call_bytes, bytes_of, LegalCall}
+use Rattle.access_log.specs.Event.{seen_in, access_line, answer_line, line_of}
+use Rattle.access_log.specs.Text.{same}
+use Rattle.access_log.specs.Read.{field, after, value_from, value, guess_from, guess, read_line}
 use Rattle.replay.specs.Replay.{fresh_world, step_of_call, adds, ran, due_after, next_line, opens, played, played_all, lines_of, ends}
 use Rattle.replay.specs.Claims.{joined, lines_of_events, recorded, Recordable}
 use Rattle.replay.specs.Example.{Example}

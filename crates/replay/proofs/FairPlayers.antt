@@ -17,23 +17,23 @@ use Rattle.machine.specs.declared.types.Event.{Event}
 use Rattle.machine.specs.declared.types.Event.TheVariants.{Nothing, HypervisorAccess, GuestAccess, ClearAccess, MaskAccess, HypervisorAnswer, GuestAnswer}
 use Rattle.machine.specs.declared.types.Step.TheVariants as step
 use Rattle.machine.specs.Exec.{World, exec}
-use Rattle.log.specs.declared.line.Line.{Line}
-use Rattle.log.specs.declared.line.Line.TheVariants as line
-use Rattle.log.specs.declared.event.Logged.{Logged}
-use Rattle.log.specs.declared.event.Logged.TheVariants as logged
-use Rattle.log.specs.declared.read.Found.{Found}
-use Rattle.log.specs.declared.read.Found.TheVariants as found
-use Rattle.log.specs.Line.{carries_port, bytes_of}
-use Rattle.log.specs.Event.{access_line, answer_line, line_of}
-use Rattle.log.specs.Read.{guess, read_line, kind_of}
-use Rattle.log.specs.Text.{same}
+use Rattle.access_log.specs.declared.line.Line.{Line}
+use Rattle.access_log.specs.declared.line.Line.TheVariants as line
+use Rattle.access_log.specs.declared.event.Logged.{Logged}
+use Rattle.access_log.specs.declared.event.Logged.TheVariants as logged
+use Rattle.access_log.specs.declared.read.Found.{Found}
+use Rattle.access_log.specs.declared.read.Found.TheVariants as found
+use Rattle.access_log.specs.Line.{carries_port, bytes_of}
+use Rattle.access_log.specs.Event.{access_line, answer_line, line_of}
+use Rattle.access_log.specs.Read.{guess, read_line, kind_of}
+use Rattle.access_log.specs.Text.{same}
 use Rattle.claims.specs.Numbers.{All}
 use Rattle.replay.specs.declared.player.Report.{Report}
 use Rattle.replay.specs.Replay.{Player, playing, stopped, report, next_line, texts_of, due_after, ran, is_busy, is_full, adds, meets, opens, judges, played, played_all, ends}
 use Rattle.replay.specs.Claims.{most_lines}
 use Rattle.replay.proofs.PlayLaws.{next_line_lem, counted, stopped_stays, over}
-use Rattle.log.specs.declared.read.Kind.{Kind}
-use Rattle.log.specs.declared.read.Kind.TheVariants as kind
+use Rattle.access_log.specs.declared.read.Kind.{Kind}
+use Rattle.access_log.specs.declared.read.Kind.TheVariants as kind
 use Rattle.replay.proofs.KindLaws.{kind_kept}
 
 -- ---- a line that is due is no call's

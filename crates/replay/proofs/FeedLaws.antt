@@ -13,8 +13,8 @@ use borrow.Author.Tests.{lt-ltb, le-ltb, ltb-true, ltb-false, eqb-true, eqb-fals
 use Rattle.word.specs.Word.{link_bits}
 use Rattle.calls.proofs.Cases.{by_test}
 use Rattle.machine.specs.Exec.{World}
-use Rattle.log.specs.Line.{newline}
-use Rattle.log.specs.Text.{Text, text, with_byte, with_bytes}
+use Rattle.access_log.specs.Line.{newline}
+use Rattle.access_log.specs.Text.{Text, text, with_byte, with_bytes}
 use Rattle.replay.specs.declared.player.Position.{Position}
 use Rattle.replay.specs.declared.player.Report.{Report}
 use Rattle.replay.specs.Replay.{Player, playing, stopped, report, next_line, ends}

@@ -11,18 +11,18 @@ use Rattle.calls.specs.declared.types.Access.{Access}
 use Rattle.calls.specs.declared.types.Access.TheVariants.{Read, Store, Or, And, Swap, Cas}
 use Rattle.machine.specs.declared.types.Side.{Side}
 use Rattle.machine.specs.declared.types.Side.TheVariants.{Guest}
-use Rattle.log.specs.declared.line.LoggedCall.{LoggedCall}
-use Rattle.log.specs.declared.line.LoggedCall.TheVariants.{InitControl, ExpandArray, Bind, Close, SetPriority, Raise, Unmask, Service, Mask, ClearMask}
-use Rattle.log.specs.declared.line.Line.{Line}
-use Rattle.log.specs.declared.line.Line.TheVariants as line
-use Rattle.log.specs.declared.read.Kind.TheVariants as kind
-use Rattle.log.specs.declared.read.Found.TheVariants as found
-use Rattle.log.specs.Line.{ascii, dash, decimal, carries_port, row, access_bytes, call_bytes, bytes_of}
-use Rattle.log.specs.Read.{field, value, guess_from, guess, kind_of, read_line}
-use Rattle.log.specs.Text.{same}
-use Rattle.log.proofs.FieldLaws.{plain}
-use Rattle.log.proofs.NumberLaws.{hex_plain, decimal_plain}
-use Rattle.log.proofs.GuessLaws.{fields, no_header, side_back, place_plain}
+use Rattle.access_log.specs.declared.line.LoggedCall.{LoggedCall}
+use Rattle.access_log.specs.declared.line.LoggedCall.TheVariants.{InitControl, ExpandArray, Bind, Close, SetPriority, Raise, Unmask, Service, Mask, ClearMask}
+use Rattle.access_log.specs.declared.line.Line.{Line}
+use Rattle.access_log.specs.declared.line.Line.TheVariants as line
+use Rattle.access_log.specs.declared.read.Kind.TheVariants as kind
+use Rattle.access_log.specs.declared.read.Found.TheVariants as found
+use Rattle.access_log.specs.Line.{ascii, dash, decimal, carries_port, row, access_bytes, call_bytes, bytes_of}
+use Rattle.access_log.specs.Read.{field, value, guess_from, guess, kind_of, read_line}
+use Rattle.access_log.specs.Text.{same}
+use Rattle.access_log.proofs.FieldLaws.{plain}
+use Rattle.access_log.proofs.NumberLaws.{hex_plain, decimal_plain}
+use Rattle.access_log.proofs.GuessLaws.{fields, no_header, side_back, place_plain}
 
 -- ---- the guess is of the kind of the line that was written
 

@@ -15,11 +15,11 @@ use Rattle.machine.specs.declared.types.Side.{Side}
 use Rattle.machine.specs.declared.types.Side.TheVariants.{Hypervisor, Guest}
 use Rattle.machine.specs.declared.types.Event.{Event}
 use Rattle.machine.specs.declared.types.Event.TheVariants.{Nothing, HypervisorAccess, GuestAccess, ClearAccess, MaskAccess, HypervisorAnswer, GuestAnswer}
-use Rattle.log.specs.declared.line.Line.TheVariants as line
-use Rattle.log.specs.declared.event.Logged.{Logged}
-use Rattle.log.specs.declared.event.Logged.TheVariants as logged
-use Rattle.log.specs.Line.{carries_port, Small, LegalPlace, LegalAccess, Legal}
-use Rattle.log.specs.Event.{seen_in, access_line, answer_line, line_of}
+use Rattle.access_log.specs.declared.line.Line.TheVariants as line
+use Rattle.access_log.specs.declared.event.Logged.{Logged}
+use Rattle.access_log.specs.declared.event.Logged.TheVariants as logged
+use Rattle.access_log.specs.Line.{carries_port, Small, LegalPlace, LegalAccess, Legal}
+use Rattle.access_log.specs.Event.{seen_in, access_line, answer_line, line_of}
 use Rattle.claims.specs.Numbers.{SmallPlace, SmallAccess, SmallAnswer, SmallEvent}
 
 -- the line, if there is one

@@ -10,14 +10,14 @@ use borrow.Author.Tests.{eqb-true, ltb-true}
 use Rattle.calls.specs.declared.types.Access.{Access}
 use Rattle.calls.specs.declared.types.Access.TheVariants.{Read, Store, Or, And, Swap, Cas}
 use Rattle.machine.specs.declared.types.Side.{Side}
-use Rattle.log.specs.declared.line.LoggedCall.{LoggedCall}
-use Rattle.log.specs.declared.line.LoggedCall.TheVariants.{InitControl, ExpandArray, Bind, Close, SetPriority, Raise, Unmask, Service, Mask, ClearMask}
-use Rattle.log.specs.declared.line.Line.{Line}
-use Rattle.log.specs.declared.line.Line.TheVariants as line
-use Rattle.log.specs.Line.{ascii, newline, row, access_bytes, call_bytes, bytes_of}
-use Rattle.log.proofs.FieldLaws.{plain, head_of, tail_of_lem}
-use Rattle.log.proofs.NumberLaws.{hex_plain, decimal_plain}
-use Rattle.log.proofs.GuessLaws.{side_plain, place_plain}
+use Rattle.access_log.specs.declared.line.LoggedCall.{LoggedCall}
+use Rattle.access_log.specs.declared.line.LoggedCall.TheVariants.{InitControl, ExpandArray, Bind, Close, SetPriority, Raise, Unmask, Service, Mask, ClearMask}
+use Rattle.access_log.specs.declared.line.Line.{Line}
+use Rattle.access_log.specs.declared.line.Line.TheVariants as line
+use Rattle.access_log.specs.Line.{ascii, newline, row, access_bytes, call_bytes, bytes_of}
+use Rattle.access_log.proofs.FieldLaws.{plain, head_of, tail_of_lem}
+use Rattle.access_log.proofs.NumberLaws.{hex_plain, decimal_plain}
+use Rattle.access_log.proofs.GuessLaws.{side_plain, place_plain}
 use Rattle.replay.specs.Replay.{lines_of}
 use Rattle.replay.specs.Claims.{log_text}
 

@@ -10,16 +10,16 @@ use lib.Dec.{eqb}
 use Rattle.word.specs.Word.{link_bits}
 use Rattle.machine.specs.declared.types.Side.{Side}
 use Rattle.machine.specs.Exec.{World}
-use Rattle.log.specs.declared.line.LoggedCall.{LoggedCall}
-use Rattle.log.specs.declared.line.Line.{Line}
-use Rattle.log.specs.declared.line.Line.TheVariants as line
-use Rattle.log.specs.declared.read.Kind.{Kind}
-use Rattle.log.specs.declared.read.Kind.TheVariants as kind
-use Rattle.log.specs.Line.{LegalCall}
-use Rattle.log.specs.Text.{same}
-use Rattle.log.specs.Read.{guess, kind_of, call_in, read_line}
-use Rattle.log.proofs.KindLaws.{call_told}
-use Rattle.log.proofs.LegalLaws.{call_in_legal}
+use Rattle.access_log.specs.declared.line.LoggedCall.{LoggedCall}
+use Rattle.access_log.specs.declared.line.Line.{Line}
+use Rattle.access_log.specs.declared.line.Line.TheVariants as line
+use Rattle.access_log.specs.declared.read.Kind.{Kind}
+use Rattle.access_log.specs.declared.read.Kind.TheVariants as kind
+use Rattle.access_log.specs.Line.{LegalCall}
+use Rattle.access_log.specs.Text.{same}
+use Rattle.access_log.specs.Read.{guess, kind_of, call_in, read_line}
+use Rattle.access_log.proofs.KindLaws.{call_told}
+use Rattle.access_log.proofs.LegalLaws.{call_in_legal}
 use Rattle.replay.specs.declared.player.Position.{Position}
 use Rattle.replay.specs.Replay.{begins}
 use Rattle.replay.specs.Player.{misses, met, made, opened, quick}

@@ -10,12 +10,12 @@ use lib.ListN.{length, take, length-append}
 use lib.Seq.{take_all, take-append-le, length-take-le}
 use lib.Dec.{eqb, ltb}
 use borrow.Author.Tests.{ltb-true, ltb-false}
-use Rattle.log.specs.declared.line.Line.{Line}
-use Rattle.log.specs.declared.read.Found.{Found}
-use Rattle.log.specs.declared.read.Found.TheVariants as found
-use Rattle.log.specs.Line.{newline, bytes_of}
-use Rattle.log.specs.Read.{read_line}
-use Rattle.log.proofs.Agreement.{agree}
+use Rattle.access_log.specs.declared.line.Line.{Line}
+use Rattle.access_log.specs.declared.read.Found.{Found}
+use Rattle.access_log.specs.declared.read.Found.TheVariants as found
+use Rattle.access_log.specs.Line.{newline, bytes_of}
+use Rattle.access_log.specs.Read.{read_line}
+use Rattle.access_log.proofs.Agreement.{agree}
 use Rattle.claims.specs.Numbers.{All}
 use Rattle.replay.specs.Replay.{Player, playing, stopped, lines_of, played}
 use Rattle.replay.specs.Player.{kept}

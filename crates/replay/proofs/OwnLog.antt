@@ -19,15 +19,15 @@ use Rattle.machine.specs.declared.types.Side.TheVariants as side
 use Rattle.machine.specs.declared.types.Step.TheVariants as step
 use Rattle.machine.specs.declared.types.Event.{Event}
 use Rattle.machine.specs.Exec.{World, exec, exec_all, perform_side, perform_hypervisor, guest_access, perform_guest, advance_of}
-use Rattle.log.specs.declared.line.LoggedCall.{LoggedCall}
-use Rattle.log.specs.declared.line.Line.{Line}
-use Rattle.log.specs.declared.line.Line.TheVariants as line
-use Rattle.log.specs.declared.event.Logged.{Logged}
-use Rattle.log.specs.declared.event.Logged.TheVariants as logged
-use Rattle.log.specs.Line.{bytes_of, LegalCall, Legal}
-use Rattle.log.specs.Event.{access_line, line_of}
-use Rattle.log.proofs.FieldLaws.{same_self}
-use Rattle.log.proofs.Agreement.{agree}
+use Rattle.access_log.specs.declared.line.LoggedCall.{LoggedCall}
+use Rattle.access_log.specs.declared.line.Line.{Line}
+use Rattle.access_log.specs.declared.line.Line.TheVariants as line
+use Rattle.access_log.specs.declared.event.Logged.{Logged}
+use Rattle.access_log.specs.declared.event.Logged.TheVariants as logged
+use Rattle.access_log.specs.Line.{bytes_of, LegalCall, Legal}
+use Rattle.access_log.specs.Event.{access_line, line_of}
+use Rattle.access_log.proofs.FieldLaws.{same_self}
+use Rattle.access_log.proofs.Agreement.{agree}
 use Rattle.claims.specs.Numbers.{All, SmallEvent, SmallWorld, SmallStep}
 use Rattle.claims.proofs.Numbers.{numbers_stay_small, runs_stay_small, fresh_is_small}
 use Rattle.replay.specs.Replay.{fresh_world, step_of_call, adds, is_full, told, ran, texts_of, due_after, report, Player, playing, is_busy, opens, played, played_all, ends}

@@ -9,7 +9,7 @@ use lib.ListN.{take}
 use lib.Dec.{eqb}
 use borrow.Author.Tests.{eqb-true}
 use Rattle.word.specs.Word.{Width}
-use Rattle.log.specs.Line.{newline}
+use Rattle.access_log.specs.Line.{newline}
 use Rattle.replay.specs.declared.player.Report.{Report}
 use Rattle.replay.specs.Replay.{Player, playing, stopped, played, played_all, lines_of, starts, ends}
 use Rattle.replay.specs.Player.{Feed, feed, quick, kept, line_ended, fed_byte, fed, lastly, reports}

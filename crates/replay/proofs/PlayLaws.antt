@@ -5,8 +5,8 @@ use native.Mathlib.Omega.{arith}
 use mathlib.Core.Path.{◌≡◌, refl, ap}
 use mathlib.Core.List.{List, [], ◌∷◌, ◌++◌, map}
 use borrow.Author.Tests.{lt-ltb}
-use Rattle.log.specs.declared.line.Line.{Line}
-use Rattle.log.specs.Line.{bytes_of}
+use Rattle.access_log.specs.declared.line.Line.{Line}
+use Rattle.access_log.specs.Line.{bytes_of}
 use Rattle.replay.specs.declared.player.Report.{Report}
 use Rattle.replay.specs.Replay.{Player, stopped, next_line, played, played_all, starts, ends, replay}
 use Rattle.replay.specs.Claims.{log_text, most_lines}

@@ -10,15 +10,15 @@ use Rattle.calls.proofs.Cases.{choose}
 use Rattle.machine.specs.declared.types.Side.{Side}
 use Rattle.machine.specs.declared.types.Step.TheVariants as step
 use Rattle.machine.specs.Exec.{World, exec}
-use Rattle.log.specs.declared.line.Line.{Line}
-use Rattle.log.specs.declared.line.Line.TheVariants as line
-use Rattle.log.specs.declared.read.Found.{Found}
-use Rattle.log.specs.declared.read.Found.TheVariants as found
-use Rattle.log.specs.Line.{bytes_of}
-use Rattle.log.specs.Text.{same}
-use Rattle.log.specs.Read.{guess, read_line}
-use Rattle.log.proofs.FieldLaws.{same_eq}
-use Rattle.log.proofs.Agreement.{agree}
+use Rattle.access_log.specs.declared.line.Line.{Line}
+use Rattle.access_log.specs.declared.line.Line.TheVariants as line
+use Rattle.access_log.specs.declared.read.Found.{Found}
+use Rattle.access_log.specs.declared.read.Found.TheVariants as found
+use Rattle.access_log.specs.Line.{bytes_of}
+use Rattle.access_log.specs.Text.{same}
+use Rattle.access_log.specs.Read.{guess, read_line}
+use Rattle.access_log.proofs.FieldLaws.{same_eq}
+use Rattle.access_log.proofs.Agreement.{agree}
 use Rattle.claims.specs.Numbers.{All, SmallWorld}
 use Rattle.replay.specs.Replay.{Player, playing, stopped, report, next_line, due_after, meets, is_busy, makes, opens, judges, played}
 use Rattle.replay.specs.Player.{misses, met, made, opened, quick}

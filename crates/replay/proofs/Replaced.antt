@@ -16,23 +16,23 @@ use Rattle.calls.specs.Guest.{mask_of}
 use Rattle.machine.specs.declared.types.Side.{Side}
 use Rattle.machine.specs.declared.types.Step.TheVariants as step
 use Rattle.machine.specs.Exec.{World, step_of, guest_step, perform_masking, perform_mask, guest_start_of, advance_of, exec}
-use Rattle.log.specs.declared.line.LoggedCall.TheVariants.{Mask}
-use Rattle.log.specs.declared.line.Line.{Line}
-use Rattle.log.specs.declared.line.Line.TheVariants as line
-use Rattle.log.specs.declared.read.Found.{Found}
-use Rattle.log.specs.declared.read.Found.TheVariants as found
-use Rattle.log.specs.Line.{bytes_of, Legal}
-use Rattle.log.specs.Event.{line_of}
-use Rattle.log.specs.Read.{guess, read_line, kind_of}
-use Rattle.log.specs.Text.{same}
-use Rattle.log.proofs.FieldLaws.{same_eq}
-use Rattle.log.proofs.Agreement.{agree}
+use Rattle.access_log.specs.declared.line.LoggedCall.TheVariants.{Mask}
+use Rattle.access_log.specs.declared.line.Line.{Line}
+use Rattle.access_log.specs.declared.line.Line.TheVariants as line
+use Rattle.access_log.specs.declared.read.Found.{Found}
+use Rattle.access_log.specs.declared.read.Found.TheVariants as found
+use Rattle.access_log.specs.Line.{bytes_of, Legal}
+use Rattle.access_log.specs.Event.{line_of}
+use Rattle.access_log.specs.Read.{guess, read_line, kind_of}
+use Rattle.access_log.specs.Text.{same}
+use Rattle.access_log.proofs.FieldLaws.{same_eq}
+use Rattle.access_log.proofs.Agreement.{agree}
 use Rattle.claims.specs.Numbers.{All}
 use Rattle.replay.specs.Replay.{step_of_call, adds, ran, Player, playing, stopped, report, next_line, due_after, is_busy, meets, makes, opens, moves, judges, played, played_all, starts, ends, replay}
 use Rattle.replay.specs.Claims.{log_text, most_lines, SameSide, MayReplace, OtherDiffers, MaskDiffers}
 use Rattle.replay.proofs.PlayLaws.{next_line_lem, stopped_stays, over, over_append, replay_over}
-use Rattle.log.specs.declared.read.Kind.{Kind}
-use Rattle.log.specs.declared.read.Kind.TheVariants as kind
+use Rattle.access_log.specs.declared.read.Kind.{Kind}
+use Rattle.access_log.specs.declared.read.Kind.TheVariants as kind
 use Rattle.replay.proofs.KindLaws.{kind_kept, mask_kept, read_guess}
 use Rattle.replay.proofs.FairPlayers.{is_call, NoCall, no_call, Fair, played_fair, over_fair, goes, agreed_goes}
 

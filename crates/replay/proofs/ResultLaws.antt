@@ -18,7 +18,7 @@ use Rattle.calls.specs.Answers.{code_of}
 use Rattle.calls.specs.Claims.{turn_of, GuestAct, guest_turn_of}
 use Rattle.machine.specs.declared.types.Side.TheVariants as side
 use Rattle.machine.specs.Exec.{list_of, hypervisor_answer, guest_answer}
-use Rattle.log.specs.Event.{answer_line, line_of}
+use Rattle.access_log.specs.Event.{answer_line, line_of}
 use Rattle.evtchn_fifo.specs.Encoded.{EncodedNext, encoded_place, encoded_access, encoded_answer, encoded_next}
 use Rattle.evtchn_fifo.specs.DomainRecord.{domain_size, domain_at}
 use Rattle.evtchn_fifo.specs.GuestRecord.{guest_size, guest_at}

@@ -15,18 +15,18 @@ use Rattle.machine.specs.declared.types.Step.TheVariants as step
 use Rattle.machine.specs.declared.types.GuestStart.TheVariants as guest_start
 use Rattle.machine.specs.declared.types.Event.{Event}
 use Rattle.machine.specs.Exec.{World, exec}
-use Rattle.log.specs.declared.line.LoggedCall.{LoggedCall}
-use Rattle.log.specs.declared.line.LoggedCall.TheVariants.{InitControl, ExpandArray, Bind, Close, SetPriority, Raise, Unmask, Service, Mask, ClearMask}
-use Rattle.log.specs.declared.line.Line.{Line}
-use Rattle.log.specs.declared.line.Line.TheVariants as line
-use Rattle.log.specs.declared.event.Logged.{Logged}
-use Rattle.log.specs.declared.event.Logged.TheVariants as logged
-use Rattle.log.specs.declared.read.Found.{Found}
-use Rattle.log.specs.declared.read.Found.TheVariants as found
-use Rattle.log.specs.Line.{bytes_of, Legal}
-use Rattle.log.specs.Event.{line_of}
-use Rattle.log.specs.Text.{same}
-use Rattle.log.specs.Read.{read_line}
+use Rattle.access_log.specs.declared.line.LoggedCall.{LoggedCall}
+use Rattle.access_log.specs.declared.line.LoggedCall.TheVariants.{InitControl, ExpandArray, Bind, Close, SetPriority, Raise, Unmask, Service, Mask, ClearMask}
+use Rattle.access_log.specs.declared.line.Line.{Line}
+use Rattle.access_log.specs.declared.line.Line.TheVariants as line
+use Rattle.access_log.specs.declared.event.Logged.{Logged}
+use Rattle.access_log.specs.declared.event.Logged.TheVariants as logged
+use Rattle.access_log.specs.declared.read.Found.{Found}
+use Rattle.access_log.specs.declared.read.Found.TheVariants as found
+use Rattle.access_log.specs.Line.{bytes_of, Legal}
+use Rattle.access_log.specs.Event.{line_of}
+use Rattle.access_log.specs.Text.{same}
+use Rattle.access_log.specs.Read.{read_line}
 use Rattle.claims.specs.Numbers.{All, SmallEvent, SmallWorld, SmallStep}
 use Rattle.claims.proofs.Numbers.{numbers_stay_small, fresh_is_small}
 use Rattle.replay.specs.Replay.{Player, playing, stopped, fresh_world, step_of_call, adds, is_full, ran, texts_of, due_after, meets, is_busy, makes, begins, opens, moves, judges, played, starts}

@@ -6,8 +6,8 @@ use mathlib.Core.List.{List, [], ◌∷◌}
 use lib.ListN.{length, replicate}
 use Rattle.word.specs.Word.{link_bits}
 use Rattle.machine.specs.Exec.{World}
-use Rattle.log.specs.declared.line.Line.TheVariants as line
-use Rattle.log.specs.Line.{bytes_of}
+use Rattle.access_log.specs.declared.line.Line.TheVariants as line
+use Rattle.access_log.specs.Line.{bytes_of}
 use Rattle.evtchn_fifo.specs.Encoded.{Freshened, freshened}
 use Rattle.evtchn_fifo.specs.Ledger.{entries, fresh_ledger_bytes}
 use Rattle.evtchn_fifo.specs.DomainRecord.{domain_size}

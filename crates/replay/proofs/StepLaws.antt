@@ -32,11 +32,11 @@ use Rattle.machine.specs.declared.types.Event.TheVariants.{Nothing, GuestAccess,
 use Rattle.calls.proofs.Cases.{choose, by_test}
 use Rattle.machine.specs.Memory.{memory, Performed, did, performed}
 use Rattle.machine.specs.Exec.{World, Stepped, exec, list_of, guest_access, hypervisor_answer}
-use Rattle.log.specs.declared.line.LoggedCall.{LoggedCall}
-use Rattle.log.specs.declared.line.LoggedCall.TheVariants as call
-use Rattle.log.specs.Line.{LegalCall, bytes_of}
-use Rattle.log.specs.Event.{access_line, line_of}
-use Rattle.log.specs.Read.{read_line}
+use Rattle.access_log.specs.declared.line.LoggedCall.{LoggedCall}
+use Rattle.access_log.specs.declared.line.LoggedCall.TheVariants as call
+use Rattle.access_log.specs.Line.{LegalCall, bytes_of}
+use Rattle.access_log.specs.Event.{access_line, line_of}
+use Rattle.access_log.specs.Read.{read_line}
 use Rattle.evtchn_fifo.specs.Numbers.{narrow}
 use Rattle.evtchn_fifo.specs.Encoded.{EncodedNext, Wrote, wrote, Carried, carried}
 use Rattle.evtchn_fifo.specs.DomainRecord.{domain_size, domain_at}

@@ -8,14 +8,14 @@ use Rattle.machine.specs.declared.types.Step.{Step}
 use Rattle.machine.specs.declared.types.Step.TheVariants as step
 use Rattle.machine.specs.declared.types.Event.{Event}
 use Rattle.machine.specs.Exec.{World, exec, exec_all}
-use Rattle.log.specs.declared.line.LoggedCall.{LoggedCall}
-use Rattle.log.specs.declared.line.LoggedCall.TheVariants as call
-use Rattle.log.specs.declared.line.Line.{Line}
-use Rattle.log.specs.declared.line.Line.TheVariants as line
-use Rattle.log.specs.declared.event.Logged.{Logged}
-use Rattle.log.specs.declared.event.Logged.TheVariants as logged
-use Rattle.log.specs.Line.{bytes_of, LegalCall, Legal}
-use Rattle.log.specs.Event.{line_of}
+use Rattle.access_log.specs.declared.line.LoggedCall.{LoggedCall}
+use Rattle.access_log.specs.declared.line.LoggedCall.TheVariants as call
+use Rattle.access_log.specs.declared.line.Line.{Line}
+use Rattle.access_log.specs.declared.line.Line.TheVariants as line
+use Rattle.access_log.specs.declared.event.Logged.{Logged}
+use Rattle.access_log.specs.declared.event.Logged.TheVariants as logged
+use Rattle.access_log.specs.Line.{bytes_of, LegalCall, Legal}
+use Rattle.access_log.specs.Event.{line_of}
 use Rattle.replay.specs.Replay.{fresh_world, step_of_call, adds, is_full, is_busy, report, starts, replay}
 use Rattle.replay.specs.Player.{Feed, feed, fed, reports}
 

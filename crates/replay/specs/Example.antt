@@ -5,8 +5,8 @@ use Prim.Native.String.{String}
 use Rattle.std.specs.Prelude.{◌≡◌, List, [], ◌∷◌, ◌++◌, map}
 use Rattle.word.specs.Word.{link_bits, port_at}
 use Rattle.machine.specs.declared.types.Side.TheVariants as side
-use Rattle.log.specs.declared.line.LoggedCall.TheVariants.{InitControl, ExpandArray, Bind, Raise, Service, Mask, ClearMask}
-use Rattle.log.specs.Line.{ascii, bytes_of}
+use Rattle.access_log.specs.declared.line.LoggedCall.TheVariants.{InitControl, ExpandArray, Bind, Raise, Service, Mask, ClearMask}
+use Rattle.access_log.specs.Line.{ascii, bytes_of}
 use Rattle.replay.specs.declared.player.Report.{Report}
 use Rattle.replay.specs.Replay.{fresh_world, report, replay}
 use Rattle.replay.specs.Claims.{joined, Act, calls, accesses, Recordable, whole_log}

@@ -5,13 +5,13 @@ use Rattle.std.specs.Prelude.{ℕ, cond, List, [], ◌∷◌, ◌++◌, length, 
 use Rattle.machine.specs.declared.types.Side.{Side}
 use Rattle.machine.specs.declared.types.Step.TheVariants as step
 use Rattle.machine.specs.Exec.{World, exec}
-use Rattle.log.specs.declared.line.Line.{Line}
-use Rattle.log.specs.declared.line.Line.TheVariants as line
-use Rattle.log.specs.declared.read.Found.{Found}
-use Rattle.log.specs.declared.read.Found.TheVariants as found
-use Rattle.log.specs.Line.{newline, bytes_of}
-use Rattle.log.specs.Text.{same}
-use Rattle.log.specs.Read.{guess, read_line}
+use Rattle.access_log.specs.declared.line.Line.{Line}
+use Rattle.access_log.specs.declared.line.Line.TheVariants as line
+use Rattle.access_log.specs.declared.read.Found.{Found}
+use Rattle.access_log.specs.declared.read.Found.TheVariants as found
+use Rattle.access_log.specs.Line.{newline, bytes_of}
+use Rattle.access_log.specs.Text.{same}
+use Rattle.access_log.specs.Read.{guess, read_line}
 use Rattle.replay.specs.declared.player.Report.{Report}
 use Rattle.replay.specs.Replay.{Player, playing, stopped, report, next_line, is_busy, due_after, begins, ends}
 

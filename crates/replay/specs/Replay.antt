@@ -16,18 +16,18 @@ use Rattle.machine.specs.declared.types.Step.TheVariants as step
 use Rattle.machine.specs.declared.types.Event.{Event}
 use Rattle.machine.specs.Memory.{memory}
 use Rattle.machine.specs.Exec.{World, Stepped, exec}
-use Rattle.log.specs.declared.line.LoggedCall.{LoggedCall}
-use Rattle.log.specs.declared.line.LoggedCall.TheVariants.{InitControl, ExpandArray, Bind, Close, SetPriority, Raise, Unmask, Service, Mask, ClearMask}
-use Rattle.log.specs.declared.line.Line.{Line}
-use Rattle.log.specs.declared.line.Line.TheVariants as line
-use Rattle.log.specs.declared.event.Logged.{Logged}
-use Rattle.log.specs.declared.event.Logged.TheVariants as logged
-use Rattle.log.specs.declared.read.Found.{Found}
-use Rattle.log.specs.declared.read.Found.TheVariants as found
-use Rattle.log.specs.Line.{newline, bytes_of}
-use Rattle.log.specs.Event.{line_of}
-use Rattle.log.specs.Text.{same}
-use Rattle.log.specs.Read.{read_line}
+use Rattle.access_log.specs.declared.line.LoggedCall.{LoggedCall}
+use Rattle.access_log.specs.declared.line.LoggedCall.TheVariants.{InitControl, ExpandArray, Bind, Close, SetPriority, Raise, Unmask, Service, Mask, ClearMask}
+use Rattle.access_log.specs.declared.line.Line.{Line}
+use Rattle.access_log.specs.declared.line.Line.TheVariants as line
+use Rattle.access_log.specs.declared.event.Logged.{Logged}
+use Rattle.access_log.specs.declared.event.Logged.TheVariants as logged
+use Rattle.access_log.specs.declared.read.Found.{Found}
+use Rattle.access_log.specs.declared.read.Found.TheVariants as found
+use Rattle.access_log.specs.Line.{newline, bytes_of}
+use Rattle.access_log.specs.Event.{line_of}
+use Rattle.access_log.specs.Text.{same}
+use Rattle.access_log.specs.Read.{read_line}
 use Rattle.replay.specs.declared.player.Report.{Report}
 
 -- ---- the world that is played on

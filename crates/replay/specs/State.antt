@@ -6,9 +6,9 @@ use Rattle.machine.specs.declared.types.Side.{Side}
 use Rattle.machine.specs.declared.types.Side.TheVariants as side
 use Rattle.machine.specs.Memory.{memory}
 use Rattle.machine.specs.Exec.{World}
-use Rattle.log.specs.declared.line.Line.TheVariants as line
-use Rattle.log.specs.Line.{newline, bytes_of}
-use Rattle.log.specs.Event.{code_line}
+use Rattle.access_log.specs.declared.line.Line.TheVariants as line
+use Rattle.access_log.specs.Line.{newline, bytes_of}
+use Rattle.access_log.specs.Event.{code_line}
 use Rattle.evtchn_fifo.specs.Encoded.{EncodedNext}
 use Rattle.exported.specs.Run.{world_of}
 use Rattle.replay.specs.declared.player.Position.{Position}

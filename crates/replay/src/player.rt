@@ -20,13 +20,13 @@ use crate::player::feed::feed_on;
 use evtchn_fifo::guest::evtchn_fifo_bytes_fresh_guest;
 use evtchn_fifo::hypervisor::evtchn_fifo_bytes_fresh_domain;
 use evtchn_fifo::ledger::evtchn_fifo_bytes_fresh_ledger;
-use log::line::{Line, put_line};
+use access_log::line::{Line, put_line};
 
 // How many lines agreed; the length of the line that is being read, or of the one at which it stopped; the length of the line that is
 // due, 0 where none is; 1 where that is a mask's access, whose answer is due after it; 0, or the kind of the report at which it
 // stopped: 1, 22 or 33.
 #[repr(C)]
-#[derive(Drop)]
+#[derive(Clone, Copy)]
 pub struct Position {
     pub lines: u64,
     pub line: usize,
@@ -37,7 +37,7 @@ pub struct Position {
 
 // 0: all agree, with the number of lines; else the kind with the line's number.
 #[repr(C)]
-#[derive(Drop)]
+#[derive(Clone, Copy)]
 pub struct Report {
     pub kind: u32,
     pub line: u64,

@@ -1,9 +1,11 @@
 // A script on standard input: words with blanks or line ends between them. No contract can say what is read.
+#![tactic(auto)]
+
 ghost use Rattle.std.specs.Prelude.{◌≡◌, ◌==◌};
 ghost use Rattle.script.specs.Names.{with_letter, ends_name, letters_after, place_after, place_of};
 
 // A word: its last eight letters as one number, its name; its digits as a decimal and as a hexadecimal number.
-#[derive(Drop)]
+#[derive(Clone, Copy)]
 struct Read {
     name: u64,
     decimal: u64,

@@ -9,7 +9,7 @@ use crate::types::{Access, Answer, Call, Owner, Place, Stage};
 use word::{Flag, Port, Queue};
 
 // What R2's reply reads of the record beside its call: the tail of the port's queue, and that of its last queue.
-#[derive(Drop)]
+#[derive(Clone, Copy)]
 pub struct View {
     pub tail: u32,
     pub former: u32,
@@ -17,7 +17,7 @@ pub struct View {
 
 // All that a reply changes: one queue's tail (none where the queue is 16), the entry, the call; and the answer with its
 // count where the call ends.
-#[derive(Drop)]
+#[derive(Clone, Copy)]
 pub struct Move {
     pub queue: Queue,
     pub tail: u32,
@@ -28,7 +28,7 @@ pub struct Move {
 }
 
 // The call goes on; no tail changes.
-pub fn goes_on_lem(entry: u16, call: Call) -> Move
+pub fn goes_on(entry: u16, call: Call) -> Move
     ensures { result ≡ goes_on entry call }
 {
     Move {
@@ -77,7 +77,7 @@ pub fn ends_tailed(entry: u16, call: Call, answer: Answer) -> Move
 pub fn named(call: Call, stage: Stage, queue: Queue) -> Call
     ensures { result ≡ named call stage queue }
 {
-    let count = records::one_more_lem(call.count);
+    let count = records::one_more(call.count);
     let owner = call.owner;
     let port = call.port;
     records::call_at(owner, stage, port, queue, count)
@@ -96,7 +96,7 @@ pub fn reply_r1(call: Call, entry: u16, seen: u32) -> Move
         return ends(entry, Answer::Done, call.count);
     }
     let next = named(call, Stage::R2, Queue(0));
-    goes_on_lem(entry, next)
+    goes_on(entry, next)
 }
 
 // U1: pending and not linked goes on at R2.
@@ -112,7 +112,7 @@ pub fn reply_u1(call: Call, entry: u16, seen: u32) -> Move
         return ends(entry, Answer::Done, call.count);
     }
     let next = named(call, Stage::R2, Queue(0));
-    goes_on_lem(entry, next)
+    goes_on(entry, next)
 }
 
 // A bind's read: an old event that is still linked refuses it (7).
@@ -213,7 +213,7 @@ pub fn reply_r2(call: Call, entry: u16, view: View, seen: u32) -> Move
 pub fn comparing(call: Call, tries: u32, word: u32) -> Call
     ensures { result ≡ comparing call tries word }
 {
-    let count = records::one_more_lem(call.count);
+    let count = records::one_more(call.count);
     let owner = call.owner;
     let port = call.port;
     let queue = call.queue;
@@ -232,7 +232,7 @@ pub fn comparing(call: Call, tries: u32, word: u32) -> Call
 pub fn clearing(call: Call, word: u32) -> Call
     ensures { result ≡ clearing call word }
 {
-    let count = records::one_more_lem(call.count);
+    let count = records::one_more(call.count);
     let owner = call.owner;
     let port = call.port;
     let queue = call.queue;
@@ -255,10 +255,10 @@ pub fn reply_r3(call: Call, entry: u16, seen: u32) -> Move
     let unlinked = !word::event::has(seen, Flag::Linked);
     if unlinked {
         let next = named(call, Stage::R5, queue);
-        return goes_on_lem(entry, next);
+        return goes_on(entry, next);
     }
     let next = comparing(call, 1, seen);
-    goes_on_lem(entry, next)
+    goes_on(entry, next)
 }
 
 // R4's first cas is not taken: R5 where the word seen lacks LINKED, else BUSY is set.
@@ -269,10 +269,10 @@ pub fn after_first_cas(call: Call, entry: u16, seen: u32) -> Move
     let unlinked = !word::event::has(seen, Flag::Linked);
     if unlinked {
         let next = named(call, Stage::R5, queue);
-        return goes_on_lem(entry, next);
+        return goes_on(entry, next);
     }
     let next = named(call, Stage::SetBusy, queue);
-    goes_on_lem(entry, next)
+    goes_on(entry, next)
 }
 
 // A later one is not taken: BUSY is cleared where the word seen lacks LINKED and after the fifth cas; else another cas.
@@ -282,15 +282,15 @@ pub fn after_later_cas(call: Call, entry: u16, seen: u32) -> Move
     let unlinked = !word::event::has(seen, Flag::Linked);
     if unlinked {
         let next = clearing(call, seen);
-        return goes_on_lem(entry, next);
+        return goes_on(entry, next);
     }
     let last = 5 <= call.tries;
     if last {
         let next = clearing(call, seen);
-        return goes_on_lem(entry, next);
+        return goes_on(entry, next);
     }
     let next = comparing(call, call.tries + 1, seen);
-    goes_on_lem(entry, next)
+    goes_on(entry, next)
 }
 
 // R4's cas: taken ends the call.
@@ -315,12 +315,12 @@ pub fn reply_set_busy(call: Call, entry: u16, seen: u32) -> Move
     let unlinked = !word::event::has(seen, Flag::Linked);
     if unlinked {
         let next = clearing(call, seen);
-        return goes_on_lem(entry, next);
+        return goes_on(entry, next);
     }
     let operand = word::event::mask(Flag::Busy);
     let standing = word::effect::after_or(seen, operand);
     let next = comparing(call, 2, standing);
-    goes_on_lem(entry, next)
+    goes_on(entry, next)
 }
 
 // BUSY is cleared: R5 where the latest word seen lacks LINKED; else the link is abandoned.
@@ -333,7 +333,7 @@ pub fn reply_clear_busy(call: Call, entry: u16) -> Move
     }
     let queue = call.queue;
     let next = named(call, Stage::R5, queue);
-    goes_on_lem(entry, next)
+    goes_on(entry, next)
 }
 
 // R5: the port is its queue's tail, and R6 follows. The word handed back for a store is ignored.

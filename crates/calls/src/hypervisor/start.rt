@@ -9,21 +9,21 @@ use crate::types::{Answer, Call, Owner, Stage};
 use word::{Port, Priority, Queue};
 
 // Whether init_control or expand_array is accepted.
-#[derive(Drop)]
+#[derive(Clone, Copy)]
 pub enum Acceptance {
     Refused(Answer),
     Accepted,
 }
 
 // Whether a call on a port gets past 15, 10, 3 and 14, with the port's entry.
-#[derive(Drop)]
+#[derive(Clone, Copy)]
 pub enum PortAcceptance {
     Refused(Answer),
     Entry(u16),
 }
 
 // What the start of a call on a port comes to: a refusal, a call under way, or an entry changed at once and no access.
-#[derive(Drop)]
+#[derive(Clone, Copy)]
 pub enum Begin {
     Refused(Answer),
     Begun(Call),

@@ -1,12 +1,12 @@
 // Lines of the log and of the counts, written to standard output.
 use crate::driver::run::due;
 use calls::types::{Answer, Next};
-use log::event::Logged;
-use log::line::{Line, Written};
+use access_log::event::Logged;
+use access_log::line::{Line, Written};
 use machine::types::{Event, Side, Sides, Step};
 
 fn write_line(out: &mut [u8], line: Line) {
-    let written = log::line::write_line(out, line);
+    let written = access_log::line::write_line(out, line);
     let Written::Bytes(len) = written else {
         return;
     };
@@ -22,7 +22,7 @@ pub(crate) fn print_line(line: Line) {
 }
 
 fn print_event(event: Event) {
-    let logged = log::event::line_of(event);
+    let logged = access_log::event::line_of(event);
     match logged {
         Logged::None => {}
         Logged::Line(line) => print_line(line),
@@ -33,7 +33,7 @@ fn print_due(sides: Sides, side: Side, word: u32) {
     match due(sides, side) {
         Next::Answer(_, _) => {}
         Next::Access(access) => {
-            let line = log::event::access_line(side, access, word);
+            let line = access_log::event::access_line(side, access, word);
             print_line(line);
         }
     }
@@ -50,7 +50,7 @@ pub(crate) fn print_reply(sides: Sides, step: Step) {
 }
 
 // An answer's number and count, if one was given.
-#[derive(Drop)]
+#[derive(Clone, Copy)]
 pub(crate) struct Answered {
     pub given: bool,
     pub number: u32,
@@ -106,7 +106,7 @@ fn print_count(count: u32) {
 }
 
 // The counts of the answers printed.
-#[derive(Drop)]
+#[derive(Clone, Copy)]
 pub(crate) struct Tally {
     pub counts: [u32; 256],
     pub answers: usize,

@@ -7,7 +7,7 @@ use machine::types::{Advance, Side, Sides};
 use word::{Port, Queue};
 
 // The records, the manner of the last step and the answer that it printed, and whether the log is over.
-#[derive(Drop)]
+#[derive(Clone, Copy)]
 pub(crate) struct Run {
     pub sides: Sides,
     pub manner: Manner,

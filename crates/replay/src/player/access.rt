@@ -2,8 +2,8 @@
 ghost use Rattle.std.specs.Prelude.{◌≡◌, List, ◌∷◌, ℕ, ◌≤◌, length};
 ghost use Rattle.word.specs.Word.{link_bits};
 ghost use Rattle.machine.specs.Exec.{World};
-ghost use Rattle.log.specs.Line.{bytes_of};
-ghost use Rattle.log.specs.Event.{access_line};
+ghost use Rattle.access_log.specs.Line.{bytes_of};
+ghost use Rattle.access_log.specs.Event.{access_line};
 ghost use Rattle.evtchn_fifo.specs.Encoded.{unpacked};
 ghost use Rattle.evtchn_fifo.specs.DomainRecord.{domain_size};
 ghost use Rattle.evtchn_fifo.specs.GuestRecord.{guest_size};
@@ -17,9 +17,9 @@ use calls::types::Access;
 use evtchn_fifo::clear_mask::{evtchn_fifo_bytes_service_due, evtchn_fifo_bytes_service_reply};
 use evtchn_fifo::encoded::PackedNext;
 use evtchn_fifo::hypervisor::{evtchn_fifo_bytes_due, evtchn_fifo_bytes_reply};
-use log::event::access_line;
-use log::line::put_line;
-use log::text::starts_as;
+use access_log::event::access_line;
+use access_log::line::put_line;
+use access_log::text::starts_as;
 use machine::memory::perform;
 use machine::types::Side;
 

@@ -2,8 +2,8 @@
 ghost use Rattle.std.specs.Prelude.{◌≡◌, List, ℕ, ◌≤◌, length};
 ghost use Rattle.word.specs.Word.{link_bits};
 ghost use Rattle.machine.specs.Exec.{World};
-ghost use Rattle.log.specs.Line.{LegalCall};
-ghost use Rattle.log.specs.Read.{call_in};
+ghost use Rattle.access_log.specs.Line.{LegalCall};
+ghost use Rattle.access_log.specs.Read.{call_in};
 ghost use Rattle.evtchn_fifo.specs.Encoded.{unpacked};
 ghost use Rattle.evtchn_fifo.specs.DomainRecord.{domain_size};
 ghost use Rattle.evtchn_fifo.specs.GuestRecord.{guest_size};
@@ -25,10 +25,10 @@ use evtchn_fifo::hypervisor::{
     evtchn_fifo_bytes_init_control, evtchn_fifo_bytes_raise, evtchn_fifo_bytes_set_priority,
     evtchn_fifo_bytes_unmask,
 };
-use log::event::access_line;
-use log::line::{Line, LoggedCall, put_line};
-use log::read::call_in;
-use log::text::starts_as;
+use access_log::event::access_line;
+use access_log::line::{Line, LoggedCall, put_line};
+use access_log::read::call_in;
+use access_log::text::starts_as;
 use machine::memory::{perform, zero_page};
 use machine::types::Side;
 use word::Port;

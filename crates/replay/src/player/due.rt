@@ -1,7 +1,7 @@
 // What is due, and the positions that a line leads to.
 ghost use Rattle.std.specs.Prelude.{◌≡◌, false, List, ℕ, length, take, eqb};
 ghost use Rattle.machine.specs.Exec.{World};
-ghost use Rattle.log.specs.Read.{read_line};
+ghost use Rattle.access_log.specs.Read.{read_line};
 ghost use Rattle.evtchn_fifo.specs.Encoded.{unpacked};
 ghost use Rattle.replay.specs.Replay.{next_line};
 ghost use Rattle.replay.specs.Player.{misses, met};
@@ -10,10 +10,10 @@ ghost use Rattle.replay.specs.State.{due_in, result_due, at, player_at};
 use crate::player::Position;
 use crate::player::named::{code_in, is_answer};
 use evtchn_fifo::encoded::PackedNext;
-use log::event::code_line;
-use log::line::{Line, put_line};
-use log::read::{Found, read_line};
-use log::text::starts_as;
+use access_log::event::code_line;
+use access_log::line::{Line, put_line};
+use access_log::read::{Found, read_line};
+use access_log::text::starts_as;
 use machine::types::Side;
 
 // The number of lines with one more; a number that can't move further stays.

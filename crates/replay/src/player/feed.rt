@@ -8,7 +8,7 @@ ghost use Rattle.replay.specs.State.{world_in, player_at, feed_at, at_line, line
 
 use crate::player::Position;
 use crate::player::line::play_line;
-use log::text::put_bytes;
+use access_log::text::put_bytes;
 
 // The length of the first line of a text, its newline included; of the whole text where it has none.
 fn line_length(text: &[u8]) -> usize

@@ -3,7 +3,7 @@ ghost use Rattle.std.specs.Prelude.{◌≡◌, true, ◌≤◌, length, eqb};
 ghost use Rattle.evtchn_fifo.specs.DomainRecord.{domain_size};
 ghost use Rattle.evtchn_fifo.specs.GuestRecord.{guest_size};
 ghost use Rattle.word.specs.Word.{link_bits};
-ghost use Rattle.log.specs.Read.{guess};
+ghost use Rattle.access_log.specs.Read.{guess};
 ghost use Rattle.replay.specs.Player.{opened, quick};
 ghost use Rattle.replay.specs.State.{world_in, player_at};
 
@@ -11,7 +11,7 @@ use crate::player::Position;
 use crate::player::access::{guest_access, hypervisor_access};
 use crate::player::call::call;
 use crate::player::due::{meet, miss};
-use log::read::{Kind, kind_of};
+use access_log::read::{Kind, kind_of};
 use machine::types::Side;
 
 // A line where nothing is due.

@@ -1,6 +1,6 @@
 -- `replay::player::due::put_answer` meets its contract. Assumes nothing.
 use Rattle.replay.proofs.DueLaws.{answer_due, none_due}
-use Rattle.log.specs.Event.{code_line}
+use Rattle.access_log.specs.Event.{code_line}
 use mathlib.Core.Path.{ap, sym, ◌∙◌}
 use borrow.Author.Rules.{rules}
 use Rattle.replay.proofs.player.due.put_answer.Statement.{statement}

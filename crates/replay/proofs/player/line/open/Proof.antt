@@ -1,6 +1,6 @@
 -- `replay::player::line::open` meets its contract. Assumes nothing.
 use Rattle.replay.proofs.OpenLaws.{open_header, open_access, open_answer, open_call}
-use Rattle.log.specs.declared.read.Kind.TheVariants as kind
+use Rattle.access_log.specs.declared.read.Kind.TheVariants as kind
 use mathlib.Core.Path.{ap, ◌∙◌}
 use borrow.Author.Rules.{rules}
 use Rattle.replay.proofs.player.line.open.Statement.{statement}

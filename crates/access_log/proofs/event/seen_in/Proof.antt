@@ -1,0 +1,64 @@
+-- `log::event::seen_in` meets its contract. Assumes nothing.
+use borrow.Author.Rules.{rules}
+use Rattle.access_log.specs.Event.{seen_in}
+use Rattle.access_log.proofs.event.seen_in.Statement.{statement}
+use Rattle.access_log.proofs.event.seen_in.Tie as tie
+
+enum_told : tie.Need-enum-told
+enum_told c = search rules
+
+enum-told-2 : tie.Need-enum-told-2
+enum-told-2 c = search rules
+
+enum-told-3 : tie.Need-enum-told-3
+enum-told-3 c = search rules
+
+enum-told-4 : tie.Need-enum-told-4
+enum-told-4 c = search rules
+
+enum-told-5 : tie.Need-enum-told-5
+enum-told-5 c = search rules
+
+enum-told-6 : tie.Need-enum-told-6
+enum-told-6 c = search rules
+
+returns : tie.Need-returns
+unfolding seen_in
+returns c = simp c.enum_told.given.1
+
+returns-2 : tie.Need-returns-2
+unfolding seen_in
+returns-2 c = simp c.enum-told2.given.1
+
+returns-3 : tie.Need-returns-3
+unfolding seen_in
+returns-3 c = simp c.enum-told3.given.1
+
+returns-4 : tie.Need-returns-4
+unfolding seen_in
+returns-4 c = simp c.enum-told4.given.1
+
+returns-5 : tie.Need-returns-5
+unfolding seen_in
+returns-5 c = simp c.enum-told5.given.1
+
+returns-6 : tie.Need-returns-6
+unfolding seen_in
+returns-6 c = simp c.enum-told6.given.1
+
+pub seen-in-spec : {M : Type 1} → statement M
+seen-in-spec =
+    tie.close
+    (tie.spec
+    enum_told
+    enum-told-2
+    enum-told-3
+    enum-told-4
+    enum-told-5
+    enum-told-6
+    returns
+    returns-2
+    returns-3
+    returns-4
+    returns-5
+    returns-6)

@@ -1,0 +1,44 @@
+-- A text built in place, by appending, and what becomes of a buffer that a line is written to.
+-- Assumes nothing.
+use Rattle.std.specs.Prelude.{ℕ, ◌+◌, Bool, true, false, cond, List, [], ◌∷◌, ◌++◌, length, drop, set, ltb, eqb}
+use Rattle.access_log.specs.declared.line.Written.{Written}
+use Rattle.access_log.specs.declared.line.Written.TheVariants.{Bytes, Short}
+
+-- a buffer whose first len bytes are the text
+pub record Text : Type 0 where
+  pub bytes : List ℕ
+  pub len : ℕ
+
+unfoldable pub text : List ℕ → ℕ → Text
+text bytes len = record { bytes = bytes; len = len }
+
+-- one byte more; what no longer fits is left out
+unfoldable pub with_byte : Text → ℕ → Text
+with_byte t b = cond (ltb t.len (length t.bytes)) (record { bytes = set t.bytes t.len b; len = t.len + 1 }) t
+
+unfoldable pub with_bytes : Text → List ℕ → Text
+with_bytes t [] = t
+with_bytes t (b ∷ bs) = with_bytes (with_byte t b) bs
+
+-- whether two texts are the same
+unfoldable pub same : List ℕ → List ℕ → Bool
+same [] [] = true
+same [] (d ∷ t) = false
+same (c ∷ s) [] = false
+same (c ∷ s) (d ∷ t) = cond (eqb c d) (same s t) false
+
+-- ---- writing
+
+-- an answer, and the buffer afterwards
+pub record Writing : Type 0 where
+  pub written : Written
+  pub out : List ℕ
+
+abbrev pub writing : Written → List ℕ → Writing
+writing w out = record { written = w; out = out }
+
+-- the bytes stand at the start of out, or nothing changes where out is too short
+unfoldable pub write_of : List ℕ → List ℕ → Writing
+write_of bytes out =
+    cond (ltb (length out) (length bytes)) (writing Short out)
+    (writing (Bytes (length bytes)) (bytes ++ drop (length bytes) out))
