@@ -2,7 +2,7 @@
 -- this record.
 -- Assumes nothing.
 use Rattle.std.specs.Prelude.{ℕ, ◌≡◌, true, false, List, length, replicate, eqb}
-use Rattle.cables.specs.Table.{Slot, slot_count, is_end, empty, has, slot_of, taken, has_space, find, across, laid_at, cut_slot, cut_at, Single}
+use Rattle.cables.specs.Table.{Slot, slot_count, is_end, empty, slot_of, taken, has_space, find, across, laid_at, cut_slot, cut_at, Single}
 
 abbrev pub fresh : List Slot
 fresh = replicate slot_count empty

@@ -12,7 +12,7 @@ use Rattle.calls.specs.declared.types.Domain.{Domain}
 use Rattle.calls.specs.declared.types.Outcome.{Outcome}
 use Rattle.calls.specs.declared.types.Guest.{Guest}
 use Rattle.calls.specs.declared.types.GuestOutcome.{GuestOutcome}
-use Rattle.calls.specs.Hypervisor.{Turn, turn, init_control, expand_array, bind_start, close_start, set_priority, raise_start, unmask_start, reply_of, due_of}
+use Rattle.calls.specs.Hypervisor.{Turn, init_control, expand_array, bind_start, close_start, set_priority, raise_start, unmask_start, reply_of, due_of}
 use Rattle.calls.specs.Records.{is_clearing}
 use Rattle.calls.specs.Guest.{service_start, mask_of, tell_of}
 use Rattle.calls.specs.ClearMask.{clear_mask_start, guest_reply, guest_due_of}
