@@ -55,12 +55,16 @@ pub hypervisor_given : {by : Side} {a : Answer} (access : Event) (x : Next) → 
 hypervisor_given access x h g = go x (after_access_lem access _ h g)
   where
     go : {by : Side} {a : Answer} (x : Next) → Gives by a (list_of (hypervisor_answer x)) → Answered side.Hypervisor by a x
+    go (next.Access _) g = elim g [ ]
+    go (next.Answer b count) (later g) = elim g [ ]
     go (next.Answer b count) hypervisor_gives = record { side = refl; count = count; same = refl }
 
 pub guest_given : {by : Side} {a : Answer} (access : Event) (x : Next) → is_answer access ≡ false → Gives by a (list_of access ++ list_of (guest_answer x)) → Answered side.Guest by a x
 guest_given access x h g = go x (after_access_lem access _ h g)
   where
     go : {by : Side} {a : Answer} (x : Next) → Gives by a (list_of (guest_answer x)) → Answered side.Guest by a x
+    go (next.Access _) g = elim g [ ]
+    go (next.Answer b count) (later g) = elim g [ ]
     go (next.Answer b count) guest_gives = record { side = refl; count = count; same = refl }
 
 guest_only : side.Hypervisor ≡ side.Guest → ⊥

@@ -14,7 +14,7 @@ same_length : tie.Need-same-length
 same_length c = search rules
 
 returns : tie.Need-returns
-returns c = falls_cut _ _ c.before.before.before.before.before.before.before.before.args.port c.before.before.before.before.before.before.before.before.args.code c.before.before.before.before.before.before.if1.true c.before.before.before.before.before.if2.true c.before.before.before.before.end_of_lem.ensures c.before.before.cut-end.ensures
+returns c = falls_cut _ _ c.before.before.before.before.before.before.before.before.args.port c.before.before.before.before.before.before.before.before.args.code c.before.before.before.before.before.before.if1.true c.before.before.before.before.before.if2.true c.before.before.before.before.end_of.ensures c.before.before.cut-end.ensures
 
 returns-2 : tie.Need-returns-2
 returns-2 c = falls_nowhere _ _ c.before.before.before.args.port c.before.before.before.args.code c.before.if1.true c.if2.false

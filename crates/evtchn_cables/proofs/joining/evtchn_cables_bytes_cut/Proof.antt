@@ -29,13 +29,13 @@ same-length-2 : tie.Need-same-length-2
 same-length-2 c = search rules
 
 returns-2 : tie.Need-returns-2
-returns-2 c = cut_made _ _ _ _ _ _ c.before.before.before.before.before.before.before.before.before.before.before.narrowed.ensures c.before.before.before.before.before.before.before.before.before.near-refusal.ensures c.before.before.before.before.before.before.before.end_of_lem.ensures c.before.before.before.before.before.before.before.before.if1.false c.before.before.before.before.before.lowest-with.ensures c.before.before.before.before.if2.true c.before.before.cut-end.ensures
+returns-2 c = cut_made _ _ _ _ _ _ c.before.before.before.before.before.before.before.before.before.before.before.narrowed.ensures c.before.before.before.before.before.before.before.before.before.near-refusal.ensures c.before.before.before.before.before.before.before.end_of.ensures c.before.before.before.before.before.before.before.before.if1.false c.before.before.before.before.before.lowest-with.ensures c.before.before.before.before.if2.true c.before.before.cut-end.ensures
 
 same-length-3 : tie.Need-same-length-3
 same-length-3 c = search rules
 
 returns-3 : tie.Need-returns-3
-returns-3 c = cut_none _ _ _ _ _ _ c.before.before.before.before.before.before.before.narrowed.ensures c.before.before.before.before.before.near-refusal.ensures c.before.before.before.end_of_lem.ensures c.before.before.before.before.if1.false c.before.lowest-with.ensures c.if2.false
+returns-3 c = cut_none _ _ _ _ _ _ c.before.before.before.before.before.before.before.narrowed.ensures c.before.before.before.before.before.near-refusal.ensures c.before.before.before.end_of.ensures c.before.before.before.before.if1.false c.before.lowest-with.ensures c.if2.false
 
 pub evtchn-cables-bytes-cut-spec : {M : Type 1} → statement M
 evtchn-cables-bytes-cut-spec =

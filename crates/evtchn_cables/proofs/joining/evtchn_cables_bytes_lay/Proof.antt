@@ -71,7 +71,7 @@ same-length-3 : tie.Need-same-length-3
 same-length-3 c = search rules
 
 returns-7 : tie.Need-returns-7
-returns-7 c = lay_joins _ _ _ _ _ _ _ _ _ _ c.before.before.before.before.before.before.before.before.before.before.before.before.before.before.before.before.if1.false c.before.before.before.before.before.before.before.before.before.before.before.before.before.before.before.if2.false c.before.before.before.before.before.before.before.before.before.before.before.before.before.before.if3.false c.before.before.before.before.before.before.before.before.before.before.before.before.before.if4.false c.before.before.before.before.before.before.before.before.before.before.before.before.narrowed.ensures c.before.before.before.before.before.before.before.before.before.before.near-refusal.ensures c.before.before.before.before.before.before.before.before.before.if5.false c.before.before.before.before.before.before.before.before.narrowed2.ensures c.before.before.before.before.before.before.before.port-refusal.ensures c.before.before.before.before.before.before.if6.false c.before.before.before.before.before.end_of_lem.ensures c.before.before.before.before.end-of2.ensures c.before.before.joined.ensures
+returns-7 c = lay_joins _ _ _ _ _ _ _ _ _ _ c.before.before.before.before.before.before.before.before.before.before.before.before.before.before.before.before.if1.false c.before.before.before.before.before.before.before.before.before.before.before.before.before.before.before.if2.false c.before.before.before.before.before.before.before.before.before.before.before.before.before.before.if3.false c.before.before.before.before.before.before.before.before.before.before.before.before.before.if4.false c.before.before.before.before.before.before.before.before.before.before.before.before.narrowed.ensures c.before.before.before.before.before.before.before.before.before.before.near-refusal.ensures c.before.before.before.before.before.before.before.before.before.if5.false c.before.before.before.before.before.before.before.before.narrowed2.ensures c.before.before.before.before.before.before.before.port-refusal.ensures c.before.before.before.before.before.before.if6.false c.before.before.before.before.before.end_of.ensures c.before.before.before.before.end-of2.ensures c.before.before.joined.ensures
 
 pub evtchn-cables-bytes-lay-spec : {M : Type 1} → statement M
 evtchn-cables-bytes-lay-spec =

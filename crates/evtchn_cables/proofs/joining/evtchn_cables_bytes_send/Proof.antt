@@ -26,7 +26,7 @@ far-at-requires : tie.Need-far-at-requires
 far-at-requires c κs = search rules
 
 returns-2 : tie.Need-returns-2
-returns-2 c = send_hinted _ _ _ _ _ _ c.before.before.before.before.before.before.narrowed.ensures c.before.before.before.before.before.near-refusal.ensures c.before.before.before.end_of_lem.ensures _ c.before.before.before.before.if1.false c.before.before.hinted.ensures c.before.if2.true c.far_at.ensures
+returns-2 c = send_hinted _ _ _ _ _ _ c.before.before.before.before.before.before.narrowed.ensures c.before.before.before.before.before.near-refusal.ensures c.before.before.before.end_of.ensures _ c.before.before.before.before.if1.false c.before.before.hinted.ensures c.before.if2.true c.far_at.ensures
 
 lowest-with-requires : tie.Need-lowest-with-requires
 lowest-with-requires c κs = search rules
@@ -35,13 +35,13 @@ far-at-requires-2 : tie.Need-far-at-requires-2
 far-at-requires-2 c κs = search rules
 
 returns-3 : tie.Need-returns-3
-returns-3 c = send_found _ _ _ _ _ _ c.before.before.before.before.before.before.before.before.narrowed.ensures c.before.before.before.before.before.before.before.near-refusal.ensures c.before.before.before.before.before.end_of_lem.ensures _ c.before.before.before.before.before.before.if1.false c.before.before.before.before.hinted.ensures c.before.before.before.if2.false c.before.before.lowest-with.ensures c.before.if3.true c.far-at2.ensures
+returns-3 c = send_found _ _ _ _ _ _ c.before.before.before.before.before.before.before.before.narrowed.ensures c.before.before.before.before.before.before.before.near-refusal.ensures c.before.before.before.before.before.end_of.ensures _ c.before.before.before.before.before.before.if1.false c.before.before.before.before.hinted.ensures c.before.before.before.if2.false c.before.before.lowest-with.ensures c.before.if3.true c.far-at2.ensures
 
 not-sent-requires-2 : tie.Need-not-sent-requires-2
 not-sent-requires-2 c κs = search rules
 
 returns-4 : tie.Need-returns-4
-returns-4 c = send_none _ _ _ _ _ _ c.before.before.before.before.before.before.before.before.narrowed.ensures c.before.before.before.before.before.before.before.near-refusal.ensures c.before.before.before.before.before.end_of_lem.ensures _ c.before.before.before.before.before.before.if1.false c.before.before.lowest-with.ensures c.before.if3.false c.not-sent2.ensures
+returns-4 c = send_none _ _ _ _ _ _ c.before.before.before.before.before.before.before.before.narrowed.ensures c.before.before.before.before.before.before.before.near-refusal.ensures c.before.before.before.before.before.end_of.ensures _ c.before.before.before.before.before.before.if1.false c.before.before.lowest-with.ensures c.before.if3.false c.not-sent2.ensures
 
 pub evtchn-cables-bytes-send-spec : {M : Type 1} → statement M
 evtchn-cables-bytes-send-spec =

@@ -1,0 +1,37 @@
+-- `log::read::number` meets its contract. The loop's invariant: the digits left make the value after n, which fits 32 bits.
+-- The measure is the number of digits left. Assumes nothing.
+use mathlib.Core.Path.{◌≡◌, refl, ◌∙◌, sym}
+use Prim.Native.Nat.{◌≤◌, ◌<◌, ◌-◌, ◌^◌}
+use native.Mathlib.Nat.{mul-le-mul, le_of_lt}
+use native.Mathlib.Omega.{arith}
+use lib.ListN.{length, drop}
+use borrow.Author.Rules.{rules}
+use Rattle.access_log.specs.Read.{value, value_from}
+use Rattle.access_log.proofs.ScanLaws.{value_next, value_end}
+use Rattle.access_log.proofs.read.number.Goals as goal
+
+pub loop-i-init : goal.loop-i-init
+unfolding value
+loop-i-init c = (omega arith, omega arith, refl)
+
+pub overflow_mul-n : goal.overflow_mul-n
+overflow_mul-n c = let at-loop = c in
+    omega (arith, mul-le-mul (le_of_lt at-loop.loop.invariant.1) at-loop.before.before.requires)
+
+pub overflow_add-n : goal.overflow_add-n
+overflow_add-n c = let at-loop = c in
+    omega (
+      arith,
+      mul-le-mul (le_of_lt at-loop.loop.invariant.1) at-loop.before.before.requires,
+      c.shared_slice_known-in-loop-i-1.given at-loop.loop.i,
+    )
+
+pub loop-i-preserved : goal.loop-i-preserved
+loop-i-preserved c = let turn = c in (
+      omega arith,
+      omega arith,
+      rw c.digit_value.ensures (turn.before.loop.invariant.2 ∙ value_next _ _ _ _ turn.loop-test.true),
+    )
+
+pub returns : goal.returns
+returns c = sym (c.loop-i.invariant.2 ∙ value_end _ _ _ _ c.loop-i-test.false)

@@ -1,0 +1,27 @@
+-- `log::text::put_bytes` meets its contract. The loop's invariant: the text so far with the bytes left is the whole. The
+-- measure is the number of bytes left. Assumes nothing.
+use mathlib.Core.Path.{◌≡◌, refl, ◌∙◌}
+use Prim.Native.Nat.{◌≤◌, ◌-◌}
+use native.Mathlib.Omega.{arith}
+use lib.ListN.{length, drop, drop_of_length-le}
+use borrow.Author.Rules.{rules}
+use Rattle.access_log.specs.Text.{text, with_bytes}
+use Rattle.access_log.proofs.TextLaws.{with_next}
+use Rattle.access_log.proofs.text.put_bytes.Goals as goal
+
+pub loop-i-init : goal.loop-i-init
+loop-i-init c = (omega arith, (refl, refl))
+
+pub loop-i-preserved : goal.loop-i-preserved
+loop-i-preserved c = let at-loop = c.loop-i in
+    let made = c.put_byte-end in (
+      omega arith,
+      (
+        rw made.ensures (with_next _ _ at-loop.i c.loop-i-test.true ∙ at-loop.invariant.1.0),
+        omega arith,
+      ),
+    )
+
+pub returns : goal.returns
+unfolding with_bytes
+returns c = simp (drop_of_length-le c.args.more.now c.loop-i-test.false) at c.loop-i.invariant.1.0

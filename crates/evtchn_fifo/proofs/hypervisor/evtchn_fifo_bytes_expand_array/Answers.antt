@@ -1,0 +1,24 @@
+-- `evtchn_fifo::hypervisor::evtchn_fifo_bytes_expand_array` meets its contract. Assumes nothing.
+use native.Mathlib.Omega.{arith}
+use borrow.Author.Tests.{ltb-true, ltb-false}
+use Rattle.evtchn_fifo.specs.Hypervisor.{expand_bytes}
+use borrow.Author.Rules.{rules}
+use Rattle.evtchn_fifo.proofs.hypervisor.evtchn_fifo_bytes_expand_array.Goals as goal
+
+pub returns-then-short : goal.returns-then-short
+unfolding expand_bytes
+returns-then-short c = simp (c.if-short.true-raw, c.too_short.ensures)
+
+pub u32_at-pages-requires : goal.u32_at-pages-requires
+u32_at-pages-requires c = omega (arith, ltb-true, ltb-false)
+
+pub put_u32-requires : goal.put_u32-requires
+put_u32-requires c = omega (arith, ltb-true, ltb-false)
+
+pub returns-in-Refused : goal.returns-in-Refused
+unfolding expand_bytes
+returns-in-Refused c = simp (← c.encoded_answer.ensures, c.in-Refused.is, ← c.accept_expand.ensures, ← c.u32_at-pages.ensures, ← c.given_at-given.ensures, ← c.owner_at-owner.ensures, c.if-short.false-raw)
+
+pub returns-in-Accepted : goal.returns-in-Accepted
+unfolding expand_bytes
+returns-in-Accepted c = simp (← c.encoded_answer-in-Accepted.ensures, ← c.put_u32.ensures, ← c.one_more-more.ensures, c.in-Accepted.is, ← c.accept_expand.ensures, ← c.u32_at-pages.ensures, ← c.given_at-given.ensures, ← c.owner_at-owner.ensures, c.if-short.false-raw)

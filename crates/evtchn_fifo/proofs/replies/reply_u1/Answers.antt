@@ -1,0 +1,18 @@
+-- `evtchn_fifo::replies::reply_u1` meets its contract. Assumes nothing.
+use Rattle.evtchn_fifo.proofs.ReplyLaws.{ends_move, r2_move}
+use Rattle.word.specs.Word.{link_bits}
+use Rattle.calls.specs.Hypervisor.{reply_u1}
+use borrow.Author.Rules.{rules}
+use Rattle.evtchn_fifo.proofs.replies.reply_u1.Goals as goal
+
+pub returns-then-quiet : goal.returns-then-quiet
+unfolding reply_u1
+returns-then-quiet c = λ e. simp (← c.ends.ensures, ← c.call_at-call.ensures, c.if-quiet.true-raw, ← c.has-quiet.ensures, ends_move)
+
+pub returns-then-linked : goal.returns-then-linked
+unfolding reply_u1
+returns-then-linked c = λ e. simp (← c.ends-then-linked.ensures, ← c.call_at-call-then-linked.ensures, c.if-linked.true, ← c.has-linked.ensures, c.if-quiet.false-raw, ← c.has-quiet.ensures, ends_move)
+
+pub returns : goal.returns
+unfolding reply_u1
+returns c = λ e. simp (← c.to_r2.ensures, c.if-linked.false, ← c.has-linked.ensures, c.if-quiet.false-raw, ← c.has-quiet.ensures, r2_move link_bits c.args.domain.now e c.requires.1)
