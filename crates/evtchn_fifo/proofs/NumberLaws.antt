@@ -1,7 +1,7 @@
 -- Numbers in bytes: what was written is read back, and nothing else changes. Each law holds for numbers of every size.
 -- Assumes nothing.
 use Prim.Native.Nat.{ℕ, zero, suc, ◌+◌, ◌-◌, ◌*◌, ◌/◌, ◌%◌, ◌<◌, ◌≤◌}
-use mathlib.Core.Path.{◌≡◌, refl, sym, ap, ◌∙◌}
+use mathlib.Core.Path.{◌≡◌, refl, sym, ap, ◌∙◌, subst}
 use mathlib.Core.Bool.{Bool, true, false}
 use mathlib.Core.List.{List, [], ◌∷◌}
 use mathlib.Core.Logic.{◌⊎◌, inl, inr, ⊎_elim}
@@ -88,10 +88,12 @@ unfolding numbers_at
 number_set zero k s i q v h l = absurd (not-suc-le-zero h)
 number_set (suc n) k s i zero v h l =
     let e : i + 0 * suc k ≡ i = omega arith in
-    rw (e, same k s i v (omega arith), numbers_after n k k s i v (i + suc k) (omega arith))
+    subst (λ (a : ℕ). numbers_at k (put_number k s a v) i (suc n) ≡ set (numbers_at k s i (suc n)) 0 v) (sym e)
+    (rw (same k s i v (omega arith), numbers_after n k k s i v (i + suc k) (omega arith)))
 number_set (suc n) k s i (suc q) v h l =
     let e : i + suc q * suc k ≡ i + suc k + q * suc k = omega arith in
-    rw (e, before k k s (i + suc k + q * suc k) v i (omega arith), number_set n k s (i + suc k) q v (omega arith) (omega arith))
+    subst (λ (a : ℕ). numbers_at k (put_number k s a v) i (suc n) ≡ set (numbers_at k s i (suc n)) (suc q) v) (sym e)
+    (rw (before k k s (i + suc k + q * suc k) v i (omega arith), number_set n k s (i + suc k) q v (omega arith) (omega arith)))
 
 -- ---- numbers of four bytes at places that are known
 

@@ -7,5 +7,5 @@ use Rattle.evtchn_fifo.proofs.numbers.put_values.Goals as goal
 
 pub returns : goal.returns
 returns c = let a = c.args in
-    let n : length a.t3 ≡ 16 = search rules in
-    sixteen_numbers a.base a.bytes.now a.t3 n c.put_four.ensures c.put_four-2.ensures c.put_four-3.ensures c.put_four-4.ensures
+    let n : length a.values ≡ 16 = search rules in
+    sixteen_numbers a.base a.bytes.now a.values n c.put_four.ensures c.put_four-2.ensures c.put_four-3.ensures c.put_four-4.ensures
