@@ -246,9 +246,9 @@ module _ {n : ℕ} (wide : Width n) {made : ℕ} (w : World) (h : List Event) (k
 steps_counts : {n : ℕ} → Width n → {made : ℕ} (w : World) (h : List Event) (ss : List Step) → Good n w h → State made w.domain.call → KeepsRules n w ss → Counted made (exec_all n w ss).events
 unfolding exec_all
 steps_counts wide w h [] k s a = tt
-steps_counts {n} wide w h (z ∷ ss) k s a =
+steps_counts {n} wide {made} w h (z ∷ ss) k s a =
     let one = step_counts wide w h k s z a.0 in
-    one.counted _ (steps_counts wide (exec n w z).world (h ++ (exec n w z).events) ss (step_kept wide w h k z a.0).good one.state a.1)
+    one.counted _ (steps_counts wide {made = (step_counts wide w h k s z a.0).after} (exec n w z).world (h ++ (exec n w z).events) ss (step_kept wide w h k z a.0).good one.state a.1)
 
 pub counts_of_events : {n : ℕ} → Width n → CountsOfEvents n
 unfolding CountsOfEvents is_free

@@ -122,12 +122,12 @@ exec_all-append n w (s ∷ a) b =
 due_append : (due : Bool) (w : World) (a b : List Step) → due_after due w (a ++ b) ≡ due_after (due_after due w a) (exec_all link_bits w a).world b
 unfolding exec_all
 due_append due w [] b = refl
-due_append due w (s ∷ a) b = due_append _ (exec link_bits w s).world a b
+due_append due w (s ∷ a) b = due_append (tell_due due w s (exec link_bits w s).world) (exec link_bits w s).world a b
 
 pass_append : (due : Bool) (w : World) (a b : List Step) → all_pass link_bits due w (a ++ b) ≡ all_pass link_bits due w a && all_pass link_bits (due_after due w a) (exec_all link_bits w a).world b
 unfolding exec_all
 pass_append due w [] b = refl
-pass_append due w (s ∷ a) b = rw (pass_append _ (exec link_bits w s).world a b) (sym (and_assoc (passes due w s) _ _))
+pass_append due w (s ∷ a) b = rw (pass_append (tell_due due w s (exec link_bits w s).world) (exec link_bits w s).world a b) (sym (and_assoc (passes due w s) _ _))
 
 -- one part after another
 abbrev followed : List Step → Ran → Ran

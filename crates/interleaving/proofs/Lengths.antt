@@ -180,7 +180,7 @@ module _ (n : ℕ) {made : ℕ} (w : World) (s : Few made w.guest.call.stage) wh
 services_few : (n : ℕ) {made : ℕ} (w : World) (ss : List Step) → Few made w.guest.call.stage → KeepsRules n w ss → service_accesses made (exec_all n w ss).events ≤ 5
 unfolding exec_all
 services_few n w [] s a = s.few
-services_few n w (z ∷ ss) s a = let one = step_served n w s z a.0 in rw (one.counted (exec_all n (exec n w z).world ss).events) (services_few n (exec n w z).world ss one.state a.1)
+services_few n {made} w (z ∷ ss) s a = let one = step_served n w s z a.0 in rw (one.counted (exec_all n (exec n w z).world ss).events) (services_few n {made = (step_served n w s z a.0).after} (exec n w z).world ss one.state a.1)
 
 -- ---- both
 

@@ -1,4 +1,4 @@
--- `log::event::carries_port` meets its contract. Assumes nothing.
+-- `access_log::event::carries_port` meets its contract. Assumes nothing.
 use borrow.Author.Tests.{ne_eqb}
 use Rattle.access_log.proofs.event.carries_port.Goals as goal
 

@@ -1,4 +1,4 @@
--- `log::event::code_line` meets its contract. Assumes nothing.
+-- `access_log::event::code_line` meets its contract. Assumes nothing.
 use borrow.Author.Rules.{rules}
 use Rattle.access_log.proofs.event.code_line.Goals as goal
 

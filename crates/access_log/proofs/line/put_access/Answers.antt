@@ -1,4 +1,4 @@
--- `log::line::put_access` meets its contract. Assumes nothing.
+-- `access_log::line::put_access` meets its contract. Assumes nothing.
 use Rattle.access_log.specs.Line.{access_bytes}
 use Rattle.access_log.specs.Line.Parts.{field_of}
 use borrow.Author.Rules.{rules}

@@ -1,4 +1,4 @@
--- `log::line::put_answer` meets its contract. Assumes nothing.
+-- `access_log::line::put_answer` meets its contract. Assumes nothing.
 use Rattle.access_log.specs.Line.Parts.{field_of}
 use Rattle.access_log.proofs.TextLaws.{row_done}
 use borrow.Author.Rules.{rules}

@@ -1,4 +1,4 @@
--- `log::line::put_line` meets its contract. Assumes nothing.
+-- `access_log::line::put_line` meets its contract. Assumes nothing.
 use Rattle.access_log.specs.Line.{bytes_of}
 use Rattle.access_log.specs.Line.Parts.{field_of}
 use borrow.Author.Rules.{rules}

@@ -1,4 +1,4 @@
--- `log::line::write_line` meets its contract: the buffer's first bytes are the line's. Assumes nothing.
+-- `access_log::line::write_line` meets its contract: the buffer's first bytes are the line's. Assumes nothing.
 use native.Mathlib.Omega.{arith}
 use borrow.Author.Rules.{rules}
 use Rattle.access_log.specs.Text.{text}
@@ -27,5 +27,4 @@ copy-requires c = let k = holds _ (search rules) c.put_line-len.ensures (line_fi
 
 pub returns : goal.returns
 unfolding text
-returns c = let at-line = c in
-    whole _ _ (holds _ (search rules) at-line.put-line.ensures (line_fits _)) (omega arith) c.copy.ensures
+returns c = whole _ _ (holds _ (search rules) c.put_line-len.ensures (line_fits _)) (omega arith) c.copy.ensures

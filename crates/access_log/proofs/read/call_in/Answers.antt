@@ -1,4 +1,4 @@
--- `log::read::call_in` meets its contract. Assumes nothing.
+-- `access_log::read::call_in` meets its contract. Assumes nothing.
 use Rattle.access_log.specs.Read.{call_in}
 use borrow.Author.Rules.{rules}
 use Rattle.access_log.proofs.read.call_in.Goals as goal

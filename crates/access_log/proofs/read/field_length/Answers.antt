@@ -1,4 +1,4 @@
--- `log::read::field_length` meets its contract. The loop's invariant: the field has the i bytes passed and those of the
+-- `access_log::read::field_length` meets its contract. The loop's invariant: the field has the i bytes passed and those of the
 -- rest's field. The measure is the number of bytes left. Assumes nothing.
 use mathlib.Core.Path.{◌≡◌}
 use Prim.Native.Nat.{◌+◌, ◌≤◌, ◌-◌}
@@ -13,14 +13,10 @@ pub loop-i-init : goal.loop-i-init
 loop-i-init c = (omega arith, omega arith)
 
 pub loop-i-preserved : goal.loop-i-preserved
-loop-i-preserved c = let turn = c in
-    let s = turn.before.before.args.s.now in
-    (omega arith, omega (arith, field_next s turn.before.loop.i turn.loop-test.true c.if-more.true-raw))
+loop-i-preserved c = (omega arith, omega (arith, field_next c.args.s.now c.loop-i.i c.loop-i-test.true c.if-more.true-raw))
 
 pub returns-else-more : goal.returns-else-more
-returns-else-more c = let turn = c in
-    let s = turn.before.before.args.s.now in
-    omega (arith, field_stop s turn.before.loop.i turn.loop-test.true c.if-more.false-raw)
+returns-else-more c = omega (arith, field_stop c.args.s.now c.loop-i.i c.loop-i-test.true c.if-more.false-raw)
 
 pub returns : goal.returns
 returns c = omega (arith, field_end c.args.s.now c.loop-i.i c.loop-i-test.false)

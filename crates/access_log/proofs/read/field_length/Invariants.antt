@@ -1,4 +1,4 @@
--- `log::read::field_length` meets its contract. The loop's invariant: the field has the i bytes passed and those of the
+-- `access_log::read::field_length` meets its contract. The loop's invariant: the field has the i bytes passed and those of the
 -- rest's field. The measure is the number of bytes left. Assumes nothing.
 use mathlib.Core.Path.{◌≡◌}
 use Prim.Native.Nat.{◌+◌, ◌≤◌, ◌-◌}

@@ -1,4 +1,4 @@
--- `log::read::first_byte` meets its contract. Assumes nothing.
+-- `access_log::read::first_byte` meets its contract. Assumes nothing.
 use mathlib.Core.Path.{sym}
 use lib.ListN.{get_or-eq_default}
 use borrow.Author.Rules.{rules}

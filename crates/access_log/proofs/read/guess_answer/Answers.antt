@@ -1,4 +1,4 @@
--- `log::read::guess_answer` meets its contract. Assumes nothing.
+-- `access_log::read::guess_answer` meets its contract. Assumes nothing.
 use borrow.Author.Rules.{rules}
 use Rattle.access_log.proofs.read.guess_answer.Goals as goal
 

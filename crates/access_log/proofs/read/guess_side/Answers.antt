@@ -1,4 +1,4 @@
--- `log::read::guess_side` meets its contract. Assumes nothing.
+-- `access_log::read::guess_side` meets its contract. Assumes nothing.
 use borrow.Author.Rules.{rules}
 use Rattle.access_log.proofs.read.guess_side.Goals as goal
 

@@ -1,4 +1,4 @@
--- `log::read::is_text_of` meets its contract. Every line fits the buffer, so its first bytes are the line's. Assumes nothing.
+-- `access_log::read::is_text_of` meets its contract. Every line fits the buffer, so its first bytes are the line's. Assumes nothing.
 use borrow.Author.Rules.{rules}
 use Rattle.access_log.specs.Text.{text}
 use Rattle.access_log.proofs.TextLaws.{holds}

@@ -1,4 +1,4 @@
--- `log::read::kind_of` meets its contract. Assumes nothing.
+-- `access_log::read::kind_of` meets its contract. Assumes nothing.
 use Rattle.access_log.proofs.KindLaws.{header_told, answer_told, call_kind_told, access_told}
 use borrow.Author.Rules.{rules}
 use Rattle.access_log.proofs.read.kind_of.Goals as goal

@@ -1,4 +1,4 @@
--- `log::read::number` meets its contract. The loop's invariant: the digits left make the value after n, which fits 32 bits.
+-- `access_log::read::number` meets its contract. The loop's invariant: the digits left make the value after n, which fits 32 bits.
 -- The measure is the number of digits left. Assumes nothing.
 use mathlib.Core.Path.{◌≡◌, refl, ◌∙◌, sym}
 use Prim.Native.Nat.{◌≤◌, ◌<◌, ◌-◌, ◌^◌}
@@ -15,22 +15,20 @@ unfolding value
 loop-i-init c = (omega arith, omega arith, refl)
 
 pub overflow_mul-n : goal.overflow_mul-n
-overflow_mul-n c = let at-loop = c in
-    omega (arith, mul-le-mul (le_of_lt at-loop.loop.invariant.1) at-loop.before.before.requires)
+overflow_mul-n c = omega (arith, mul-le-mul (le_of_lt c.loop-i.invariant.1) c.requires)
 
 pub overflow_add-n : goal.overflow_add-n
-overflow_add-n c = let at-loop = c in
-    omega (
+overflow_add-n c = omega (
       arith,
-      mul-le-mul (le_of_lt at-loop.loop.invariant.1) at-loop.before.before.requires,
-      c.shared_slice_known-in-loop-i-1.given at-loop.loop.i,
+      mul-le-mul (le_of_lt c.loop-i.invariant.1) c.requires,
+      c.shared_slice_known-in-loop-i-1.given c.loop-i.i,
     )
 
 pub loop-i-preserved : goal.loop-i-preserved
-loop-i-preserved c = let turn = c in (
+loop-i-preserved c = (
       omega arith,
       omega arith,
-      rw c.digit_value.ensures (turn.before.loop.invariant.2 ∙ value_next _ _ _ _ turn.loop-test.true),
+      rw c.digit_value.ensures (c.loop-i.invariant.2 ∙ value_next _ _ _ _ c.loop-i-test.true),
     )
 
 pub returns : goal.returns

@@ -1,4 +1,4 @@
--- `log::read::number` meets its contract. The loop's invariant: the digits left make the value after n, which fits 32 bits.
+-- `access_log::read::number` meets its contract. The loop's invariant: the digits left make the value after n, which fits 32 bits.
 -- The measure is the number of digits left. Assumes nothing.
 use mathlib.Core.Path.{◌≡◌, refl, ◌∙◌, sym}
 use Prim.Native.Nat.{◌≤◌, ◌<◌, ◌-◌, ◌^◌}

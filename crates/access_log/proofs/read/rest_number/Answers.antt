@@ -1,4 +1,4 @@
--- `log::read::rest_number` meets its contract. Assumes nothing.
+-- `access_log::read::rest_number` meets its contract. Assumes nothing.
 use mathlib.Core.Path.{sym}
 use borrow.Author.Rules.{rules}
 use Rattle.access_log.proofs.ScanLaws.{rest_part, value_none}

@@ -1,4 +1,4 @@
--- `log::text::copy` meets its contract. The loop's invariant: out is the first i bytes, then its own from there
+-- `access_log::text::copy` meets its contract. The loop's invariant: out is the first i bytes, then its own from there
 -- on. The measure is the number of bytes left. Assumes nothing.
 use mathlib.Core.Path.{◌≡◌, refl}
 use mathlib.Core.List.{◌++◌}
@@ -14,11 +14,11 @@ pub loop-i-init : goal.loop-i-init
 loop-i-init c = (omega arith, (refl, refl))
 
 pub loop-i-preserved : goal.loop-i-preserved
-loop-i-preserved c = let at-loop = c.loop-i in (
+loop-i-preserved c = (
       omega arith,
       (
-        rw at-loop.invariant.1.0 (copy_next _ _ at-loop.i (omega arith) (omega arith)),
-        simp length-set at-loop.invariant.1.1,
+        rw c.loop-i.invariant.1.0 (copy_next _ _ c.loop-i.i (omega arith) (omega arith)),
+        simp length-set c.loop-i.invariant.1.1,
       ),
     )
 

@@ -1,4 +1,4 @@
--- `log::text::copy` meets its contract. The loop's invariant: out is the first i bytes, then its own from there
+-- `access_log::text::copy` meets its contract. The loop's invariant: out is the first i bytes, then its own from there
 -- on. The measure is the number of bytes left. Assumes nothing.
 use mathlib.Core.Path.{◌≡◌, refl}
 use mathlib.Core.List.{◌++◌}

@@ -1,4 +1,4 @@
--- `log::text::put_bytes` meets its contract. The loop's invariant: the text so far with the bytes left is the whole. The
+-- `access_log::text::put_bytes` meets its contract. The loop's invariant: the text so far with the bytes left is the whole. The
 -- measure is the number of bytes left. Assumes nothing.
 use mathlib.Core.Path.{◌≡◌, refl, ◌∙◌}
 use Prim.Native.Nat.{◌≤◌, ◌-◌}
@@ -13,11 +13,10 @@ pub loop-i-init : goal.loop-i-init
 loop-i-init c = (omega arith, (refl, refl))
 
 pub loop-i-preserved : goal.loop-i-preserved
-loop-i-preserved c = let at-loop = c.loop-i in
-    let made = c.put_byte-end in (
+loop-i-preserved c = (
       omega arith,
       (
-        rw made.ensures (with_next _ _ at-loop.i c.loop-i-test.true ∙ at-loop.invariant.1.0),
+        rw c.put_byte-end.ensures (with_next _ _ c.loop-i.i c.loop-i-test.true ∙ c.loop-i.invariant.1.0),
         omega arith,
       ),
     )

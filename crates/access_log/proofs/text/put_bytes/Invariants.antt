@@ -1,4 +1,4 @@
--- `log::text::put_bytes` meets its contract. The loop's invariant: the text so far with the bytes left is the whole. The
+-- `access_log::text::put_bytes` meets its contract. The loop's invariant: the text so far with the bytes left is the whole. The
 -- measure is the number of bytes left. Assumes nothing.
 use mathlib.Core.Path.{◌≡◌, refl, ◌∙◌}
 use Prim.Native.Nat.{◌≤◌, ◌-◌}

@@ -1,4 +1,4 @@
--- `log::text::same` meets its contract. The loop's invariant: the texts, of one length, are the same exactly if what is left
+-- `access_log::text::same` meets its contract. The loop's invariant: the texts, of one length, are the same exactly if what is left
 -- of them is. The measure is the number of bytes left. Assumes nothing.
 use mathlib.Core.Path.{◌≡◌, refl, ◌∙◌, sym}
 use Prim.Native.Nat.{◌≤◌, ◌-◌}
@@ -16,12 +16,10 @@ pub loop-i-init : goal.loop-i-init
 loop-i-init c = (omega arith, refl)
 
 pub loop-i-preserved : goal.loop-i-preserved
-loop-i-preserved c = let at-loop = c.loop-i in
-    (omega arith, at-loop.invariant.1 ∙ same_next _ _ at-loop.i (omega arith) (omega arith) c.if-equal.true-raw)
+loop-i-preserved c = (omega arith, c.loop-i.invariant.1 ∙ same_next _ _ c.loop-i.i (omega arith) (omega arith) c.if-equal.true-raw)
 
 pub returns-else-equal : goal.returns-else-equal
-returns-else-equal c = let at-loop = c.loop-i in
-    sym (at-loop.invariant.1 ∙ same_stop _ _ at-loop.i (omega arith) (omega arith) c.if-equal.false-raw)
+returns-else-equal c = sym (c.loop-i.invariant.1 ∙ same_stop _ _ c.loop-i.i (omega arith) (omega arith) c.if-equal.false-raw)
 
 pub returns : goal.returns
 returns c = sym (c.loop-i.invariant.1 ∙ same_end _ _ _ c.loop-i-test.false (omega arith))

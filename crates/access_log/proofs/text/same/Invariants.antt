@@ -1,4 +1,4 @@
--- `log::text::same` meets its contract. The loop's invariant: the texts, of one length, are the same exactly if what is left
+-- `access_log::text::same` meets its contract. The loop's invariant: the texts, of one length, are the same exactly if what is left
 -- of them is. The measure is the number of bytes left. Assumes nothing.
 use mathlib.Core.Path.{◌≡◌, refl, ◌∙◌, sym}
 use Prim.Native.Nat.{◌≤◌, ◌-◌}

@@ -1,4 +1,4 @@
--- `log::text::starts_as` meets its contract. Assumes nothing.
+-- `access_log::text::starts_as` meets its contract. Assumes nothing.
 use native.Mathlib.Omega.{arith}
 use lib.ListN.{length-take}
 use lib.Seq.{take_all}

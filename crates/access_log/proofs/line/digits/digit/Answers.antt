@@ -1,4 +1,4 @@
--- `log::line::digits::digit` meets its contract. Assumes nothing.
+-- `access_log::line::digits::digit` meets its contract. Assumes nothing.
 use borrow.Author.Rules.{rules}
 use borrow.Author.Tests.{lt-ltb, le-ltb}
 use Rattle.access_log.specs.Line.{digit}

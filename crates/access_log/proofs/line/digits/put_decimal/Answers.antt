@@ -1,4 +1,4 @@
--- `log::line::digits::put_decimal` meets its contract. Assumes nothing.
+-- `access_log::line::digits::put_decimal` meets its contract. Assumes nothing.
 use Rattle.access_log.specs.Line.{decimal}
 use borrow.Author.Rules.{rules}
 use Rattle.access_log.proofs.line.digits.put_decimal.Goals as goal

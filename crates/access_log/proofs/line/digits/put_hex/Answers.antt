@@ -1,4 +1,4 @@
--- `log::line::digits::put_hex` meets its contract. Assumes nothing.
+-- `access_log::line::digits::put_hex` meets its contract. Assumes nothing.
 use Rattle.access_log.specs.Line.{hex8}
 use Rattle.access_log.proofs.DigitLaws.{eight_put}
 use borrow.Author.Rules.{rules}

@@ -1,4 +1,4 @@
--- `log::line::row::put_field` meets its contract. Assumes nothing.
+-- `access_log::line::row::put_field` meets its contract. Assumes nothing.
 use Rattle.access_log.specs.Line.Parts.{field_of}
 use Rattle.access_log.specs.Text.{with_bytes}
 use borrow.Author.Rules.{rules}

@@ -1,4 +1,4 @@
--- `log::line::row::put_place` meets its contract. Assumes nothing.
+-- `access_log::line::row::put_place` meets its contract. Assumes nothing.
 use Rattle.access_log.specs.Line.{place_of}
 use Rattle.access_log.specs.Text.{with_bytes}
 use borrow.Author.Rules.{rules}

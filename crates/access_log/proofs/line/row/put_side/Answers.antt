@@ -1,4 +1,4 @@
--- `log::line::row::put_side` meets its contract. Assumes nothing.
+-- `access_log::line::row::put_side` meets its contract. Assumes nothing.
 use borrow.Author.Rules.{rules}
 use Rattle.access_log.specs.Line.{side_of}
 use Rattle.access_log.specs.Text.{with_bytes}
