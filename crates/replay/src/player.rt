@@ -17,10 +17,10 @@ ghost use Rattle.replay.specs.State.{world_in, feed_at};
 
 use crate::player::due::next_line;
 use crate::player::feed::feed_on;
+use access_log::line::{Line, put_line};
 use evtchn_fifo::guest::evtchn_fifo_bytes_fresh_guest;
 use evtchn_fifo::hypervisor::evtchn_fifo_bytes_fresh_domain;
 use evtchn_fifo::ledger::evtchn_fifo_bytes_fresh_ledger;
-use access_log::line::{Line, put_line};
 
 // How many lines agreed; the length of the line that is being read, or of the one at which it stopped; the length of the line that is
 // due, 0 where none is; 1 where that is a mask's access, whose answer is due after it; 0, or the kind of the report at which it

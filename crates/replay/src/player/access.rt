@@ -13,13 +13,13 @@ ghost use Rattle.replay.specs.State.{world_in, result_due, player_at};
 use crate::player::Position;
 use crate::player::due::{miss, next_line, playing, put_answer};
 use crate::player::named::{access_in, is_answer};
+use access_log::event::access_line;
+use access_log::line::put_line;
+use access_log::text::starts_as;
 use calls::types::Access;
 use evtchn_fifo::clear_mask::{evtchn_fifo_bytes_service_due, evtchn_fifo_bytes_service_reply};
 use evtchn_fifo::encoded::PackedNext;
 use evtchn_fifo::hypervisor::{evtchn_fifo_bytes_due, evtchn_fifo_bytes_reply};
-use access_log::event::access_line;
-use access_log::line::put_line;
-use access_log::text::starts_as;
 use machine::memory::perform;
 use machine::types::Side;
 

@@ -15,6 +15,10 @@ ghost use Rattle.replay.specs.State.{world_in, result_due, player_at};
 use crate::player::Position;
 use crate::player::due::{next_line, playing, put_answer, stopped};
 use crate::player::named::{access_in, code_in, is_answer};
+use access_log::event::access_line;
+use access_log::line::{Line, LoggedCall, put_line};
+use access_log::read::call_in;
+use access_log::text::starts_as;
 use evtchn_fifo::clear_mask::evtchn_fifo_bytes_clear_mask;
 use evtchn_fifo::domain_record::pages_in;
 use evtchn_fifo::encoded::PackedNext;
@@ -25,10 +29,6 @@ use evtchn_fifo::hypervisor::{
     evtchn_fifo_bytes_init_control, evtchn_fifo_bytes_raise, evtchn_fifo_bytes_set_priority,
     evtchn_fifo_bytes_unmask,
 };
-use access_log::event::access_line;
-use access_log::line::{Line, LoggedCall, put_line};
-use access_log::read::call_in;
-use access_log::text::starts_as;
 use machine::memory::{perform, zero_page};
 use machine::types::Side;
 use word::Port;

@@ -9,11 +9,11 @@ ghost use Rattle.replay.specs.State.{due_in, result_due, at, player_at};
 
 use crate::player::Position;
 use crate::player::named::{code_in, is_answer};
-use evtchn_fifo::encoded::PackedNext;
 use access_log::event::code_line;
 use access_log::line::{Line, put_line};
 use access_log::read::{Found, read_line};
 use access_log::text::starts_as;
+use evtchn_fifo::encoded::PackedNext;
 use machine::types::Side;
 
 // The number of lines with one more; a number that can't move further stays.

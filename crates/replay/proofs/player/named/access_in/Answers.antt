@@ -1,0 +1,9 @@
+-- `replay::player::named::access_in` meets its contract. Assumes nothing.
+use Rattle.exported.specs.Decoded.{decoded_access}
+use Rattle.evtchn_fifo.specs.Encoded.{unpacked}
+use borrow.Author.Rules.{rules}
+use Rattle.replay.proofs.player.named.access_in.Goals as goal
+
+pub returns : goal.returns
+unfolding decoded_access unpacked
+returns c = simp (c.kind_in.ensures, c.before.IsPlace-in.ensures, c.upper-old.ensures, c.lower-value.ensures, c.upper-index.ensures, c.lower-code.ensures)
