@@ -16,7 +16,7 @@ use Rattle.machine.specs.declared.types.Step.TheVariants as step
 use Rattle.machine.specs.Exec.{World}
 use Rattle.cables.specs.Table.{end, domain_of, port_of, across}
 use Rattle.cables.specs.Rules.{near_refusal}
-use Rattle.fence.specs.System.{System, Order, On, Lay, Cut, Send, Act, Works, refusal_at, act}
+use Rattle.fence.specs.System.{System, Order, On, Lay, Cut, Send, Act, Works, refusal_at, act, after}
 use Rattle.fence.specs.Fence.{Kind, Starts, Replies, GuestDoes, kind, Like, same, hers, refused, weakest, every_call, refused_hers, Alike, with_words, FenceHolds}
 use Rattle.fence.proofs.Fence.{fence_weakest}
 
@@ -79,7 +79,7 @@ module _ (n h : ℕ) where
   alike_less σ τ [] [] a = tt
   alike_less σ τ [] (p ∷ ps) a = absurd a
   alike_less σ τ (o ∷ os) [] a = absurd a
-  alike_less σ τ (o ∷ os) (p ∷ ps) a = (a.0, like_less σ τ a.0 a.1, alike_less _ _ os ps a.2)
+  alike_less σ τ (o ∷ os) (p ∷ ps) a = (a.0, like_less σ τ a.0 a.1, alike_less (after n σ (act n σ o)) (after n τ (act n τ p)) os ps a.2)
 
 pub fence : (n : ℕ) → FenceHolds n every_call
 unfolding FenceHolds

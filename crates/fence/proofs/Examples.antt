@@ -59,10 +59,10 @@ module _ (n : ℕ) (asks : World → Step → Bool) where
   alike_by σ τ [] e = tt
   alike_by σ τ (both o ∷ ls) e =
       let d = and_both (agree_at σ τ o o) _ e in
-      (same o, agrees _ _ d.0, alike_by _ _ ls d.1)
+      (same o, agrees _ _ d.0, alike_by (after n σ (act n σ o)) (after n τ (act n τ o)) ls d.1)
   alike_by σ τ (seen v w ∷ ls) e =
       let d = and_both (agree_at σ τ (On 0 (sees v)) (On 0 (sees w))) _ e in
-      (hers _ _ refl, agrees _ _ d.0, alike_by _ _ ls d.1)
+      (hers _ _ refl, agrees _ _ d.0, alike_by (after n σ (act n σ (On 0 (sees v)))) (after n τ (act n τ (On 0 (sees w)))) ls d.1)
 
 module _ (n : ℕ) (asked : Terms) (h : ℕ) where
   same_test : (σ : System) (a : Act) → asks_hers n (refused n asked) h σ a ≡ refused_hers n asked h σ a
@@ -74,7 +74,7 @@ module _ (n : ℕ) (asked : Terms) (h : ℕ) where
   alike_terms σ τ [] (p ∷ ps) a = absurd a
   alike_terms σ τ (o ∷ os) [] a = absurd a
   alike_terms σ τ (o ∷ os) (p ∷ ps) a =
-      (a.0, sym (same_test σ (act n σ o)) ∙ a.1 ∙ same_test τ (act n τ p), alike_terms _ _ os ps a.2)
+      (a.0, sym (same_test σ (act n σ o)) ∙ a.1 ∙ same_test τ (act n τ p), alike_terms (after n σ (act n σ o)) (after n τ (act n τ p)) os ps a.2)
 
 -- ---- each term is needed
 

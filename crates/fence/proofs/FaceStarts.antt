@@ -11,7 +11,7 @@ use lib.Seq.{map-set_same}
 use lib.Dec.{eqb, leb, ltb}
 use Rattle.word.specs.declared.Port.{Port}
 use Rattle.word.specs.declared.Priority.{Priority}
-use Rattle.word.specs.Entry.{bound}
+use Rattle.word.specs.Entry.{bound, bound_entry}
 use Rattle.word.proofs.EntryLaws.{bound-bound_entry, bound-closed_entry, bound-with_priority}
 use Rattle.calls.specs.declared.types.Answer.{Answer}
 use Rattle.calls.specs.declared.types.Answer.TheVariants.{BadPort, NotBound, AlreadyBound, AlreadyGiven, NotGiven, BadFrame, BadOffset, TooManyPages, NoEntry, CallUnderWay, BadVcpu}
@@ -23,9 +23,10 @@ use Rattle.calls.specs.declared.hypervisor.start.Acceptance.{Acceptance}
 use Rattle.calls.specs.declared.hypervisor.start.PortAcceptance.{PortAcceptance}
 use Rattle.calls.specs.declared.hypervisor.start.PortAcceptance.TheVariants as port_acceptance
 use Rattle.calls.specs.declared.hypervisor.start.Begin.{Begin}
+use Rattle.calls.specs.declared.hypervisor.start.Begin.TheVariants as begin
 use Rattle.calls.specs.Answers.{code_of}
 use Rattle.calls.specs.Records.{page_limit, is_port, in_array, entry_at, is_free}
-use Rattle.calls.specs.Hypervisor.{Turn, turn, answered, is_offset, accept_init, accept_expand, entry_or14, accept_port, bind_entry, close_entry, priority_entry, link_entry, begin_bind, begin_close, begin_priority, begin_link, init_control_of, init_control, expand_array_of, expand_array, started, bind_start, close_start, set_priority, raise_start, unmask_start, next_of}
+use Rattle.calls.specs.Hypervisor.{Turn, turn, answered, is_offset, accept_init, accept_expand, entry_or14, accept_port, bind_entry, close_entry, priority_entry, link_entry, begin_bind, begin_close, begin_priority, begin_link, first_access, init_control_of, init_control, expand_array_of, expand_array, started, bind_start, close_start, set_priority, raise_start, unmask_start, next_of}
 use Rattle.calls.specs.Claims.{is_refusal}
 use Rattle.calls.proofs.Cases.{choose, by_test}
 use Rattle.machine.specs.declared.types.Start.{Start}
@@ -124,7 +125,7 @@ module _ (n : ℕ) (d : Domain) (ledger : List ℕ) where
     bind_goes =
         on_port_lem (λ a. P (bind_entry d.pages p a)) (refusing (Bind p) refl)
         (λ free. choose P (bound entry) (refusing (Bind p) refl AlreadyBound refl)
-        (by_test P (in_array d.pages p.0) (λ h. record { face = rw h; falls = refl })
+        (by_test P (in_array d.pages p.0) {x = first_access owner.Bind p} {y = begin.Settled (bound_entry entry)} (λ h. record { face = rw h; falls = refl })
         (λ h. record { face = rw h (simp (bounds_set, bound-bound_entry)); falls = refl })))
       where
         P : Begin → Type 0

@@ -116,7 +116,7 @@ fenced n h σ τ [] (p ∷ ps) S a = absurd a
 fenced n h σ τ (o ∷ os) [] S a = absurd a
 fenced n h σ τ (o ∷ os) (p ∷ ps) S a =
     let k = kept n h σ τ S a.0 a.1 in
-    let f = fenced n h _ _ os ps k.later a.2 in
+    let f = fenced n h (after n σ (act n σ o)) (after n τ (act n τ p)) os ps k.later a.2 in
     record {
       heard = ap (λ l. l ∷ outside_all h (trace n (after n σ (act n σ o)) os)) k.now
           ∙ ap (λ ls. outside h (heard n τ (act n τ p)) ∷ ls) f.heard;

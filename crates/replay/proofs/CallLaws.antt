@@ -14,10 +14,10 @@ use Rattle.word.specs.Word.{link_bits, link_bits-width, mask}
 use Rattle.calls.specs.declared.types.Place.TheVariants as place
 use Rattle.calls.specs.declared.types.Access.{Access}
 use Rattle.calls.specs.declared.types.Access.TheVariants.{Or}
-use Rattle.calls.specs.declared.types.Answer.TheVariants.{Done, CallUnderWay, NotGiven, TooManyPages, BadFrame}
+use Rattle.calls.specs.declared.types.Answer.TheVariants.{Done, BadPort, OutsideArray, CallUnderWay, NotGiven, TooManyPages, BadFrame}
 use Rattle.calls.specs.declared.types.Next.{Next}
 use Rattle.calls.specs.declared.types.Next.TheVariants as next
-use Rattle.calls.specs.declared.types.Masking.{Masking}
+use Rattle.calls.specs.declared.types.Masking.TheVariants as masking
 use Rattle.calls.specs.declared.types.Domain.{Domain}
 use Rattle.calls.specs.declared.hypervisor.start.Acceptance.TheVariants as acceptance
 use Rattle.calls.specs.Answers.{code_of}
@@ -208,11 +208,15 @@ module _ (d t g ws b : List ℕ) (domain-long : domain_size ≤ length d) (guest
     no_access : {A : Type 0} (a : Access) → ltb (encoded_access a).code 0x100 ≡ true → A
     no_access a h = absurd (false≢true (sym (access_number a) ∙ h))
 
+    masking_by : (q : Port) (bad outside : Bool) → Refused (encoded_masking (cond bad (masking.Refused BadPort 0) (cond outside (masking.Refused OutsideArray 0) (masking.Made (Or (place.Word q) (mask Masked)) Done 1))))
+    unfolding encoded_masking encoded_answer code_of decoded_next decoded_answer due_after line_of answer_line result_due
+    masking_by q true outside = λ h. refl
+    masking_by q false true = λ h. refl
+    masking_by q false false = λ h. no_access (Or (place.Word q) (mask Masked)) h
+
     masking_refused : (q : Port) (words : ℕ) → Refused (encoded_masking (mask_of link_bits q words))
-    unfolding mask_of encoded_masking encoded_answer code_of decoded_next decoded_answer due_after line_of answer_line result_due
-    masking_refused q words =
-        choose (λ (m : Masking). Refused (encoded_masking m)) (not (is_port link_bits q.0)) (λ h. refl)
-        (choose (λ (m : Masking). Refused (encoded_masking m)) (leb words q.0) (λ h. refl) (λ h. no_access (Or (place.Word q) (mask Masked)) h))
+    unfolding mask_of
+    masking_refused q words = masking_by q (not (is_port link_bits q.0)) (leb words q.0)
 
     mask_due : ltb x.code 0x100 ≡ true → due_after (run.perform_mask lent (decoded_next x)).events ≡ result_due side.Guest x
     mask_due = rw (named_here ∙ mask_narrow link_bits-width lent long p.0 (words_at g)) (masking_refused _ (words_at g))

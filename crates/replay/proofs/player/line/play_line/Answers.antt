@@ -5,7 +5,7 @@ use borrow.Author.Rules.{rules}
 use Rattle.replay.proofs.player.line.play_line.Goals as goal
 
 pub returns-then-none : goal.returns-then-none
-returns-then-none c = c.before.before.before.before.before.before.before.before.before.before.before.before.«open».ensures ∙ quick_open _ _ _ _ c.requires.3 c.if-none.true-raw
+returns-then-none c = c.«open».ensures ∙ quick_open _ _ _ _ c.requires.3 c.if-none.true-raw
 
 pub returns : goal.returns
 returns c = c.meet.ensures _ ∙ quick_meet _ _ _ _ c.requires.3 c.if-none.false-raw
