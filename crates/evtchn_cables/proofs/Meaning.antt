@@ -36,7 +36,7 @@ use Rattle.cables.specs.Rules.{port_refusal, join_refusal, lay_refusal, near_ref
 use Rattle.cables.specs.Claims.{fresh}
 use Rattle.evtchn_cables.specs.TableBytes.{table_size, table_at, cut_bytes}
 use Rattle.evtchn_cables.specs.Encoded.{port_refusal_bytes, is_short, lent_refusal, lay_code, lay_did, near_code, cut_did, far_found, fall_bytes, CarriedCables, close_cables, reply_cables}
-use Rattle.evtchn_cables.specs.Claims.{own, meant, meant_lay, meant_cut, CableCalls}
+use Rattle.evtchn_cables.specs.Claims.{meant, meant_lay, meant_cut, CableCalls}
 use Rattle.evtchn_cables.proofs.SlotLaws.{table_length, slot_at}
 use Rattle.evtchn_cables.proofs.TableMeaning.{table_put, table_cut_lem, zero_slot, slot_beyond, cut_beyond}
 

@@ -6,7 +6,6 @@ use Rattle.word.specs.declared.Port.{Port}
 use Rattle.word.specs.Word.{port_at}
 use Rattle.word.specs.declared.Priority.{Priority}
 use Rattle.word.specs.Entry.{priority_at}
-use Rattle.calls.specs.declared.types.Place.TheVariants.{Word}
 use Rattle.calls.specs.declared.types.Answer.{Answer}
 use Rattle.calls.specs.declared.types.Answer.TheVariants.{Done, LinkBits, NoEntry, NoCall}
 use Rattle.calls.specs.declared.types.Owner.{Owner}

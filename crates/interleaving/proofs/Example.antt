@@ -23,7 +23,6 @@ use Rattle.machine.specs.Memory.{memory, zero_page}
 use Rattle.machine.specs.Exec.{World, exec, exec_all}
 use Rattle.machine.specs.Computes.{runs}
 use Rattle.machine.specs.declared.types.Side.TheVariants as side
-use Rattle.machine.specs.declared.types.Start.TheVariants.{Raise}
 use Rattle.machine.specs.declared.types.GuestStart.TheVariants.{Service, Mask, ClearMask, Tell}
 use Rattle.machine.specs.declared.types.Step.{Step}
 use Rattle.machine.specs.declared.types.Step.TheVariants as step

@@ -25,7 +25,7 @@ use Rattle.machine.specs.Memory.{performed, place_of, after_access, loaded, save
 use Rattle.machine.specs.Exec.{World, perform_side}
 use Rattle.machine.specs.declared.types.Side.TheVariants as side
 use Rattle.machine.specs.declared.types.Event.{Event}
-use Rattle.queue.specs.Model.{Call, with_pending, with_masked}
+use Rattle.queue.specs.Model.{with_pending, with_masked}
 use Rattle.queue.specs.Model.Kind.{at_r1, at_r2, at_u1, at_bind, at_close}
 use Rattle.queue.specs.Model.Call.{idle, asks}
 use Rattle.queue.specs.Stages.{R1, U1}

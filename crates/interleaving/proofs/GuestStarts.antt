@@ -21,7 +21,6 @@ use Rattle.calls.specs.declared.types.Place.TheVariants as place
 use Rattle.calls.specs.declared.types.Next.{Next}
 use Rattle.calls.specs.declared.types.Next.TheVariants as next
 use Rattle.calls.specs.declared.types.Masking.TheVariants as masking
-use Rattle.calls.specs.declared.types.Guest.{Guest}
 use Rattle.calls.specs.declared.types.GuestStage.{GuestStage}
 use Rattle.calls.specs.declared.types.GuestStage.TheVariants as guest_stage
 use Rattle.calls.specs.declared.types.GuestCall as guests
@@ -34,7 +33,7 @@ use Rattle.calls.specs.Records.{is_port, guest_call_at, is_clearing, clear_at}
 use Rattle.calls.specs.Guest.{is_serving, guest_next, guest_answered, guest_going_on, with_guest_call, service_start, mask_of, with_words, tell_of}
 use Rattle.calls.specs.ClearMask.{with_clear, clear_mask_start}
 use Rattle.calls.proofs.RecordLaws.{is_port_lem}
-use Rattle.machine.specs.Memory.{memory, performed, place_of, after_access, loaded, saved}
+use Rattle.machine.specs.Memory.{performed, place_of, after_access, loaded, saved}
 use Rattle.machine.specs.Exec.{World, guest_step, guest_replied, guest_answer, list_of, perform_masking, perform_mask, guest_start_of}
 use Rattle.machine.specs.declared.types.GuestStart.{GuestStart}
 use Rattle.machine.specs.declared.types.GuestStart.TheVariants.{Service, Mask, ClearMask, Tell}

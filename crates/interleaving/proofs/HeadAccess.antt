@@ -16,7 +16,7 @@ use Rattle.calls.specs.declared.types.Owner.{Owner}
 use Rattle.calls.specs.declared.types.Stage.TheVariants as stage
 use Rattle.calls.specs.Answers.{code_of}
 use Rattle.calls.specs.Hypervisor.{ends, due, staged, reply_r5, reply_r6}
-use Rattle.machine.specs.Memory.{memory, performed, place_of, after_access, loaded, saved}
+use Rattle.machine.specs.Memory.{performed, place_of, after_access, loaded, saved}
 use Rattle.machine.specs.Exec.{World, perform_side}
 use Rattle.machine.specs.declared.types.Side.TheVariants as side
 use Rattle.machine.specs.declared.types.Event.{Event}

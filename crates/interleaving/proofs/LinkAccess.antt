@@ -33,11 +33,11 @@ use Rattle.machine.specs.Exec.{World, perform_side}
 use Rattle.machine.specs.declared.types.Side.TheVariants as side
 use Rattle.machine.specs.declared.types.Event.{Event}
 use Rattle.queue.specs.Update.{update}
-use Rattle.queue.specs.Model.{Word, Call, View, with_linked}
+use Rattle.queue.specs.Model.{Call, View, with_linked}
 use Rattle.queue.specs.Model.Kind.{at_r2}
 use Rattle.queue.specs.Model.Stage.{at_r3, at_r5}
 use Rattle.queue.specs.Model.Call.{idle, asks, holds}
-use Rattle.queue.specs.Stages.{After, put, tails_at_r2, stale_tail, forget_tail, link_on, R5}
+use Rattle.queue.specs.Stages.{After, put, tails_at_r2, stale_tail, forget_tail, link_on}
 use Rattle.queue.specs.Budget.{made_by}
 use Rattle.queue.specs.Invariant.{Keeps}
 use Rattle.queue.proofs.Cases.{clash, by_cond, and_both}

@@ -18,7 +18,7 @@ use Rattle.calls.specs.Answers.{code_of}
 use Rattle.calls.specs.Records.{is_clearing}
 use Rattle.calls.specs.Guest.{is_serving, guest_due, guest_next, guest_moved, guest_carried_out, guest_move, service_reply}
 use Rattle.calls.specs.ClearMask.{guest_reply, guest_due_of}
-use Rattle.machine.specs.Memory.{Memory, memory, performed}
+use Rattle.machine.specs.Memory.{Memory, performed}
 use Rattle.machine.specs.Exec.{World, Advanced, guest_step, guest_replied, guest_answer, list_of, guest_access, perform_side, perform_guest}
 use Rattle.machine.specs.declared.types.Side.TheVariants as side
 use Rattle.machine.specs.declared.types.Event.{Event}

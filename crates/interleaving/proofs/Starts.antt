@@ -43,7 +43,7 @@ use Rattle.machine.specs.Exec.{World, list_of, hypervisor_answer, started, turne
 use Rattle.machine.specs.declared.types.Start.{Start}
 use Rattle.machine.specs.declared.types.Start.TheVariants.{InitControl, ExpandArray, Bind, Close, SetPriority, Raise, Unmask}
 use Rattle.machine.specs.declared.types.Event.{Event}
-use Rattle.queue.specs.Model.{Kind, Call, zero_word}
+use Rattle.queue.specs.Model.{Kind, zero_word}
 use Rattle.queue.specs.Model.Kind.{at_r1, at_u1, at_bind, at_close}
 use Rattle.queue.specs.Model.Call.{idle, asks}
 use Rattle.queue.specs.Stages.{expand}

@@ -24,7 +24,6 @@ use Rattle.calls.specs.Answers.{code_of}
 use Rattle.calls.specs.Records.{one_more, is_free, is_port}
 use Rattle.calls.specs.Hypervisor.{accept_expand, expand_array_of, expand_array}
 use Rattle.calls.specs.Guest.{mask_of}
-use Rattle.calls.proofs.Cases.{choose}
 use Rattle.machine.specs.declared.types.Side.TheVariants as side
 use Rattle.machine.specs.declared.types.Start.TheVariants as start
 use Rattle.machine.specs.declared.types.GuestStart.TheVariants as guest_start

@@ -1,5 +1,4 @@
 -- `access_log::event::access_line` meets its contract. Assumes nothing.
-use borrow.Author.Rules.{rules}
 use Rattle.access_log.specs.Event.{access_line}
 use Rattle.access_log.proofs.event.access_line.Goals as goal
 

@@ -1,5 +1,4 @@
 -- `access_log::event::answer_line` meets its contract. Assumes nothing.
-use borrow.Author.Rules.{rules}
 use Rattle.access_log.specs.Event.{answer_line}
 use Rattle.access_log.proofs.event.answer_line.Goals as goal
 

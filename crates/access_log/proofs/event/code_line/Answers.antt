@@ -1,5 +1,4 @@
 -- `access_log::event::code_line` meets its contract. Assumes nothing.
-use borrow.Author.Rules.{rules}
 use Rattle.access_log.proofs.event.code_line.Goals as goal
 
 pub returns-then-has_port : goal.returns-then-has_port

@@ -1,6 +1,5 @@
 -- `access_log::event::line_of` meets its contract. Assumes nothing.
 use Rattle.access_log.specs.Event.{line_of}
-use borrow.Author.Rules.{rules}
 use Rattle.access_log.proofs.event.line_of.Goals as goal
 
 pub returns-in-Nothing : goal.returns-in-Nothing

@@ -1,5 +1,4 @@
 -- `access_log::event::seen_in` meets its contract. Assumes nothing.
-use borrow.Author.Rules.{rules}
 use Rattle.access_log.specs.Event.{seen_in}
 use Rattle.access_log.proofs.event.seen_in.Goals as goal
 

@@ -1,7 +1,6 @@
 -- `access_log::line::put_access` meets its contract. Assumes nothing.
 use Rattle.access_log.specs.Line.{access_bytes}
 use Rattle.access_log.specs.Line.Parts.{field_of}
-use borrow.Author.Rules.{rules}
 use Rattle.access_log.proofs.line.put_access.Goals as goal
 
 pub returns-in-Read : goal.returns-in-Read

@@ -1,7 +1,6 @@
 -- `access_log::line::put_answer` meets its contract. Assumes nothing.
 use Rattle.access_log.specs.Line.Parts.{field_of}
 use Rattle.access_log.proofs.TextLaws.{row_done}
-use borrow.Author.Rules.{rules}
 use Rattle.access_log.proofs.line.put_answer.Goals as goal
 
 pub returns : goal.returns

@@ -1,7 +1,6 @@
 -- `access_log::line::put_call` meets its contract. Assumes nothing.
 use Rattle.access_log.specs.Line.{call_bytes}
 use Rattle.access_log.specs.Line.Parts.{field_of}
-use borrow.Author.Rules.{rules}
 use Rattle.access_log.proofs.line.put_call.Goals as goal
 
 pub returns-in-InitControl : goal.returns-in-InitControl

@@ -1,7 +1,6 @@
 -- `access_log::line::put_line` meets its contract. Assumes nothing.
 use Rattle.access_log.specs.Line.{bytes_of}
 use Rattle.access_log.specs.Line.Parts.{field_of}
-use borrow.Author.Rules.{rules}
 use Rattle.access_log.proofs.line.put_line.Goals as goal
 
 pub returns-in-Header : goal.returns-in-Header

@@ -1,6 +1,5 @@
 -- `access_log::read::after` meets its contract. Assumes nothing.
 use native.Mathlib.Omega.{arith}
-use borrow.Author.Rules.{rules}
 use Rattle.access_log.proofs.ScanLaws.{field_le, after_part, after_last}
 use Rattle.access_log.proofs.read.after.Goals as goal
 

@@ -1,6 +1,5 @@
 -- `access_log::read::call_in` meets its contract. Assumes nothing.
 use Rattle.access_log.specs.Read.{call_in}
-use borrow.Author.Rules.{rules}
 use Rattle.access_log.proofs.read.call_in.Goals as goal
 
 pub returns : goal.returns

@@ -1,5 +1,4 @@
 -- `access_log::read::field` meets its contract. Assumes nothing.
-use borrow.Author.Rules.{rules}
 use Rattle.access_log.proofs.ScanLaws.{field_take}
 use Rattle.access_log.proofs.read.field.Goals as goal
 

@@ -1,11 +1,6 @@
 -- `access_log::read::field_length` meets its contract. The loop's invariant: the field has the i bytes passed and those of the
 -- rest's field. The measure is the number of bytes left. Assumes nothing.
-use mathlib.Core.Path.{◌≡◌}
-use Prim.Native.Nat.{◌+◌, ◌≤◌, ◌-◌}
 use native.Mathlib.Omega.{arith}
-use lib.ListN.{length, drop}
-use borrow.Author.Rules.{rules}
-use Rattle.access_log.specs.Read.{field}
 use Rattle.access_log.proofs.ScanLaws.{field_next, field_stop, field_end}
 use Rattle.access_log.proofs.read.field_length.Goals as goal
 

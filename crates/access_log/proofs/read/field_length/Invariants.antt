@@ -2,11 +2,8 @@
 -- rest's field. The measure is the number of bytes left. Assumes nothing.
 use mathlib.Core.Path.{◌≡◌}
 use Prim.Native.Nat.{◌+◌, ◌≤◌, ◌-◌}
-use native.Mathlib.Omega.{arith}
 use lib.ListN.{length, drop}
-use borrow.Author.Rules.{rules}
 use Rattle.access_log.specs.Read.{field}
-use Rattle.access_log.proofs.ScanLaws.{field_next, field_stop, field_end}
 use Rattle.access_log.proofs.read.field_length.Given as goal
 
 abbrev pub invariant-loop-i : goal.invariant-loop-i

@@ -1,7 +1,6 @@
 -- `access_log::read::first_byte` meets its contract. Assumes nothing.
 use mathlib.Core.Path.{sym}
 use lib.ListN.{get_or-eq_default}
-use borrow.Author.Rules.{rules}
 use Rattle.access_log.proofs.read.first_byte.Goals as goal
 
 pub returns-else-s-gt0 : goal.returns-else-s-gt0

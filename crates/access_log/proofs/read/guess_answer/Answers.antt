@@ -1,5 +1,4 @@
 -- `access_log::read::guess_answer` meets its contract. Assumes nothing.
-use borrow.Author.Rules.{rules}
 use Rattle.access_log.proofs.read.guess_answer.Goals as goal
 
 pub returns-then-has_port : goal.returns-then-has_port

@@ -1,6 +1,5 @@
 -- `access_log::read::guess_call` meets its contract. Assumes nothing.
 use mathlib.Core.Path.{refl}
-use borrow.Author.Rules.{rules}
 use Rattle.access_log.proofs.ChoiceLaws.{taken, passed}
 use Rattle.access_log.proofs.read.guess_call.Goals as goal
 

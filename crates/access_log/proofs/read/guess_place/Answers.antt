@@ -1,5 +1,4 @@
 -- `access_log::read::guess_place` meets its contract. Assumes nothing.
-use borrow.Author.Rules.{rules}
 use Rattle.access_log.proofs.read.guess_place.Goals as goal
 
 pub returns-then-word : goal.returns-then-word

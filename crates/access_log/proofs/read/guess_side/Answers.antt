@@ -1,5 +1,4 @@
 -- `access_log::read::guess_side` meets its contract. Assumes nothing.
-use borrow.Author.Rules.{rules}
 use Rattle.access_log.proofs.read.guess_side.Goals as goal
 
 pub returns-then-hypervisor : goal.returns-then-hypervisor

@@ -1,6 +1,5 @@
 -- `access_log::read::kind_of` meets its contract. Assumes nothing.
 use Rattle.access_log.proofs.KindLaws.{header_told, answer_told, call_kind_told, access_told}
-use borrow.Author.Rules.{rules}
 use Rattle.access_log.proofs.read.kind_of.Goals as goal
 
 pub returns-then-header : goal.returns-then-header

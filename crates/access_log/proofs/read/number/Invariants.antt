@@ -1,13 +1,9 @@
 -- `access_log::read::number` meets its contract. The loop's invariant: the digits left make the value after n, which fits 32 bits.
 -- The measure is the number of digits left. Assumes nothing.
-use mathlib.Core.Path.{◌≡◌, refl, ◌∙◌, sym}
+use mathlib.Core.Path.{◌≡◌}
 use Prim.Native.Nat.{◌≤◌, ◌<◌, ◌-◌, ◌^◌}
-use native.Mathlib.Nat.{mul-le-mul, le_of_lt}
-use native.Mathlib.Omega.{arith}
 use lib.ListN.{length, drop}
-use borrow.Author.Rules.{rules}
 use Rattle.access_log.specs.Read.{value, value_from}
-use Rattle.access_log.proofs.ScanLaws.{value_next, value_end}
 use Rattle.access_log.proofs.read.number.Given as goal
 
 abbrev pub invariant-loop-i : goal.invariant-loop-i

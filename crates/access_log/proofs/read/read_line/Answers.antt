@@ -1,5 +1,4 @@
 -- `access_log::read::read_line` meets its contract. Assumes nothing.
-use borrow.Author.Rules.{rules}
 use Rattle.access_log.specs.Read.{read_line}
 use Rattle.access_log.proofs.read.read_line.Goals as goal
 

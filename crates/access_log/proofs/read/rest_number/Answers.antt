@@ -1,6 +1,5 @@
 -- `access_log::read::rest_number` meets its contract. Assumes nothing.
 use mathlib.Core.Path.{sym}
-use borrow.Author.Rules.{rules}
 use Rattle.access_log.proofs.ScanLaws.{rest_part, value_none}
 use Rattle.access_log.proofs.read.rest_number.Goals as goal
 

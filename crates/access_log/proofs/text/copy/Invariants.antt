@@ -1,13 +1,9 @@
 -- `access_log::text::copy` meets its contract. The loop's invariant: out is the first i bytes, then its own from there
 -- on. The measure is the number of bytes left. Assumes nothing.
-use mathlib.Core.Path.{◌≡◌, refl}
+use mathlib.Core.Path.{◌≡◌}
 use mathlib.Core.List.{◌++◌}
 use Prim.Native.Nat.{◌≤◌, ◌-◌}
-use native.Mathlib.Omega.{arith}
-use lib.ListN.{length, take, drop, length-set}
-use lib.Seq.{take-length}
-use borrow.Author.Rules.{rules}
-use Rattle.access_log.proofs.TextLaws.{copy_next}
+use lib.ListN.{length, take, drop}
 use Rattle.access_log.proofs.text.copy.Given as goal
 
 abbrev pub invariant-loop-i : goal.invariant-loop-i

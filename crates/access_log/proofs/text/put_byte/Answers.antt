@@ -1,5 +1,4 @@
 -- `access_log::text::put_byte` meets its contract. Assumes nothing.
-use borrow.Author.Rules.{rules}
 use borrow.Author.Tests.{lt-ltb, le-ltb}
 use Rattle.access_log.specs.Text.{text, with_byte}
 use Rattle.access_log.proofs.text.put_byte.Goals as goal

@@ -1,12 +1,9 @@
 -- `access_log::text::put_bytes` meets its contract. The loop's invariant: the text so far with the bytes left is the whole. The
 -- measure is the number of bytes left. Assumes nothing.
-use mathlib.Core.Path.{◌≡◌, refl, ◌∙◌}
+use mathlib.Core.Path.{◌≡◌}
 use Prim.Native.Nat.{◌≤◌, ◌-◌}
-use native.Mathlib.Omega.{arith}
-use lib.ListN.{length, drop, drop_of_length-le}
-use borrow.Author.Rules.{rules}
+use lib.ListN.{length, drop}
 use Rattle.access_log.specs.Text.{text, with_bytes}
-use Rattle.access_log.proofs.TextLaws.{with_next}
 use Rattle.access_log.proofs.text.put_bytes.Given as goal
 
 abbrev pub invariant-loop-i : goal.invariant-loop-i

@@ -1,12 +1,9 @@
 -- `access_log::text::same` meets its contract. The loop's invariant: the texts, of one length, are the same exactly if what is left
 -- of them is. The measure is the number of bytes left. Assumes nothing.
-use mathlib.Core.Path.{◌≡◌, refl, ◌∙◌, sym}
+use mathlib.Core.Path.{◌≡◌}
 use Prim.Native.Nat.{◌≤◌, ◌-◌}
-use native.Mathlib.Omega.{arith}
 use lib.ListN.{length, drop}
-use borrow.Author.Rules.{rules}
 use Rattle.access_log.specs.Text.{same}
-use Rattle.access_log.proofs.ScanLaws.{same_length, same_next, same_stop, same_end}
 use Rattle.access_log.proofs.text.same.Given as goal
 
 abbrev pub invariant-loop-i : goal.invariant-loop-i

@@ -2,7 +2,6 @@
 use native.Mathlib.Omega.{arith}
 use lib.ListN.{length-take}
 use lib.Seq.{take_all}
-use borrow.Author.Rules.{rules}
 use Rattle.access_log.proofs.text.starts_as.Goals as goal
 
 pub slice_bounds-same-end : goal.slice_bounds-same-end

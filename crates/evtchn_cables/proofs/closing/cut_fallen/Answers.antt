@@ -1,6 +1,5 @@
 -- `evtchn_cables::closing::cut_fallen` meets its contract. Assumes nothing.
 use Rattle.evtchn_cables.proofs.ClosingLaws.{falls_cut, falls_nowhere, falls_not}
-use borrow.Author.Rules.{rules}
 use Rattle.evtchn_cables.proofs.closing.cut_fallen.Goals as goal
 
 pub returns-then-some : goal.returns-then-some

@@ -3,7 +3,6 @@ use mathlib.Core.Path.{refl}
 use Rattle.evtchn_fifo.specs.Encoded.{unpacked}
 use Rattle.evtchn_cables.specs.Encoded.{reply_cables}
 use Rattle.evtchn_cables.proofs.ClosingLaws.{reply_done, reply_other}
-use borrow.Author.Rules.{rules}
 use Rattle.evtchn_cables.proofs.closing.evtchn_cables_bytes_reply.Goals as goal
 
 pub returns-then-short : goal.returns-then-short

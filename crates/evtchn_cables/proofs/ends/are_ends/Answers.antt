@@ -1,5 +1,4 @@
 -- `evtchn_cables::ends::are_ends` meets its contract. Assumes nothing.
-use borrow.Author.Rules.{rules}
 use Rattle.evtchn_cables.proofs.ends.are_ends.Goals as goal
 
 pub returns-then-first : goal.returns-then-first

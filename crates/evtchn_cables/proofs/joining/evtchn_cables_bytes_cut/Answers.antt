@@ -1,6 +1,5 @@
 -- `evtchn_cables::joining::evtchn_cables_bytes_cut` meets its contract. Assumes nothing.
 use Rattle.evtchn_cables.proofs.RefusalLaws.{cut_refused, cut_made, cut_none}
-use borrow.Author.Rules.{rules}
 use Rattle.evtchn_cables.proofs.joining.evtchn_cables_bytes_cut.Goals as goal
 
 pub returns-then-bad : goal.returns-then-bad

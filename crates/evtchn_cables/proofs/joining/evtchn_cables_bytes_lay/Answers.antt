@@ -1,6 +1,5 @@
 -- `evtchn_cables::joining::evtchn_cables_bytes_lay` meets its contract. Assumes nothing.
 use Rattle.evtchn_cables.proofs.RefusalLaws.{lay_near_23, lay_far_23, lay_24, lay_64, lay_near, lay_far, lay_joins}
-use borrow.Author.Rules.{rules}
 use Rattle.evtchn_cables.proofs.joining.evtchn_cables_bytes_lay.Goals as goal
 
 pub returns-then-beyond : goal.returns-then-beyond

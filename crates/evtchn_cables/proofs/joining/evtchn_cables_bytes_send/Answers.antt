@@ -1,6 +1,5 @@
 -- `evtchn_cables::joining::evtchn_cables_bytes_send` meets its contract. Assumes nothing.
 use Rattle.evtchn_cables.proofs.RefusalLaws.{send_refused, send_hinted, send_found, send_none}
-use borrow.Author.Rules.{rules}
 use Rattle.evtchn_cables.proofs.joining.evtchn_cables_bytes_send.Goals as goal
 
 pub returns-then-bad : goal.returns-then-bad

@@ -1,6 +1,5 @@
 -- `evtchn_cables::joining::far_at` meets its contract. Assumes nothing.
 use Rattle.cables.specs.Table.{domain_of, port_of}
-use borrow.Author.Rules.{rules}
 use Rattle.evtchn_cables.proofs.joining.far_at.Goals as goal
 
 pub returns : goal.returns

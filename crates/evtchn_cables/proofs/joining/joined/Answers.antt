@@ -1,6 +1,5 @@
 -- `evtchn_cables::joining::joined` meets its contract. Assumes nothing.
 use Rattle.evtchn_cables.proofs.RefusalLaws.{near_taken, far_taken, joins, table_full}
-use borrow.Author.Rules.{rules}
 use Rattle.evtchn_cables.proofs.joining.joined.Goals as goal
 
 pub returns-then-near_taken : goal.returns-then-near_taken

@@ -1,6 +1,5 @@
 -- `evtchn_cables::refusals::near_refusal` meets its contract. Assumes nothing.
 use Rattle.evtchn_cables.specs.Encoded.{near_refusal_bytes, lent_refusal}
-use borrow.Author.Rules.{rules}
 use Rattle.evtchn_cables.proofs.refusals.near_refusal.Goals as goal
 
 pub returns-then-beyond : goal.returns-then-beyond

@@ -4,7 +4,6 @@ use Rattle.calls.specs.Records.{is_free}
 use Rattle.calls.specs.Hypervisor.{accept_port}
 use Rattle.cables.specs.Rules.{refusal_by}
 use Rattle.evtchn_cables.specs.Encoded.{port_refusal_bytes}
-use borrow.Author.Rules.{rules}
 use Rattle.evtchn_cables.proofs.refusals.port_refusal.Goals as goal
 
 pub returns-then-ungiven : goal.returns-then-ungiven

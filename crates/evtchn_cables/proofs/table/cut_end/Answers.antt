@@ -1,10 +1,7 @@
 -- `evtchn_cables::table::cut_end` meets its contract. Assumes nothing.
 use Rattle.evtchn_cables.proofs.SlotLaws.{cut_more, cut_length, cut_all}
-use Prim.Native.Nat.{◌-◌, ◌≤◌}
-use mathlib.Core.Path.{◌≡◌, refl}
+use mathlib.Core.Path.{refl}
 use native.Mathlib.Omega.{arith}
-use borrow.Author.Rules.{rules}
-use lib.ListN.{length}
 use Rattle.evtchn_cables.specs.TableBytes.{cut_up_to}
 use Rattle.evtchn_cables.proofs.SlotLaws.{cut_more, cut_all}
 use Rattle.evtchn_cables.proofs.table.cut_end.Goals as goal

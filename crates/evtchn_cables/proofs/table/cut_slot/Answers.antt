@@ -1,6 +1,5 @@
 -- `evtchn_cables::table::cut_slot` meets its contract. Assumes nothing.
 use Rattle.evtchn_cables.proofs.SlotLaws.{cut_slot_made, cut_slot_kept}
-use borrow.Author.Rules.{rules}
 use Rattle.evtchn_cables.proofs.table.cut_slot.Goals as goal
 
 pub returns-then-found : goal.returns-then-found

@@ -1,6 +1,5 @@
 -- `evtchn_cables::table::has_end` meets its contract. Assumes nothing.
 use Rattle.evtchn_cables.proofs.SlotLaws.{has_first, has_second, has_neither}
-use borrow.Author.Rules.{rules}
 use Rattle.evtchn_cables.proofs.table.has_end.Goals as goal
 
 pub returns-then-first : goal.returns-then-first

@@ -1,6 +1,5 @@
 -- `evtchn_cables::table::hinted` meets its contract. Assumes nothing.
 use Rattle.evtchn_cables.proofs.SlotLaws.{hint_inside, hint_beyond}
-use borrow.Author.Rules.{rules}
 use Rattle.evtchn_cables.proofs.table.hinted.Goals as goal
 
 pub returns-then-some : goal.returns-then-some

@@ -1,6 +1,5 @@
 -- `evtchn_cables::table::is_free` meets its contract. Assumes nothing.
 use Rattle.evtchn_cables.proofs.SlotLaws.{free_is}
-use borrow.Author.Rules.{rules}
 use Rattle.evtchn_cables.proofs.table.is_free.Goals as goal
 
 pub returns : goal.returns

@@ -1,13 +1,9 @@
 -- `evtchn_cables::table::lowest_with` meets its contract. Assumes nothing.
 use Prim.Native.Nat.{ℕ, ◌-◌, ◌≤◌, ◌<◌}
-use mathlib.Core.Path.{◌≡◌, sym, ◌∙◌}
+use mathlib.Core.Path.{◌≡◌}
 use mathlib.Core.Bool.{false}
-use native.Mathlib.Omega.{arith}
-use native.Mathlib.Nat.{not-suc-le-zero}
-use borrow.Author.Rules.{rules}
 use Rattle.cables.specs.Table.{has}
 use Rattle.evtchn_cables.specs.TableBytes.{slot_in}
-use Rattle.evtchn_cables.proofs.SlotLaws.{walk_finds, walk_ends, none_more}
 use Rattle.evtchn_cables.proofs.table.lowest_with.Given as goal
 
 abbrev pub invariant-loop-slot : goal.invariant-loop-slot

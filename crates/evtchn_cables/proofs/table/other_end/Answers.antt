@@ -1,6 +1,5 @@
 -- `evtchn_cables::table::other_end` meets its contract. Assumes nothing.
 use Rattle.evtchn_cables.proofs.SlotLaws.{other_second, other_first}
-use borrow.Author.Rules.{rules}
 use Rattle.evtchn_cables.proofs.table.other_end.Goals as goal
 
 pub returns-then-first : goal.returns-then-first

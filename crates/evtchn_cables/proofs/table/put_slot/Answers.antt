@@ -1,6 +1,5 @@
 -- `evtchn_cables::table::put_slot` meets its contract. Assumes nothing.
 use Rattle.evtchn_cables.proofs.SlotLaws.{put_both}
-use borrow.Author.Rules.{rules}
 use Rattle.evtchn_cables.proofs.table.put_slot.Goals as goal
 
 pub returns : goal.returns

@@ -1,6 +1,5 @@
 -- `evtchn_fifo::clear_mask::clear_reply` meets its contract. Assumes nothing.
 use Rattle.evtchn_fifo.proofs.GuestLaws.{clear_goes_on_lem, clear_ends_lem}
-use borrow.Author.Rules.{rules}
 use Rattle.evtchn_fifo.proofs.clear_mask.clear_reply.Goals as goal
 
 pub returns-then-clearing : goal.returns-then-clearing

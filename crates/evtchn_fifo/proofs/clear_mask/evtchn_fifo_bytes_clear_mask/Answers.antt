@@ -3,7 +3,6 @@ use borrow.Author.Tests.{ltb-false}
 use native.Mathlib.Omega.{arith}
 use Rattle.calls.specs.ClearMask.{clear_mask_start}
 use Rattle.evtchn_fifo.specs.ClearMask.{clear_mask_bytes}
-use borrow.Author.Rules.{rules}
 use Rattle.evtchn_fifo.proofs.clear_mask.evtchn_fifo_bytes_clear_mask.Goals as goal
 
 pub returns-then-short : goal.returns-then-short

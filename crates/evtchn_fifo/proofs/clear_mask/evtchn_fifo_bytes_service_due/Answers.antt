@@ -1,6 +1,5 @@
 -- `evtchn_fifo::clear_mask::evtchn_fifo_bytes_service_due` meets its contract. Assumes nothing.
 use Rattle.evtchn_fifo.specs.ClearMask.{guest_due_bytes}
-use borrow.Author.Rules.{rules}
 use Rattle.evtchn_fifo.proofs.clear_mask.evtchn_fifo_bytes_service_due.Goals as goal
 
 pub returns-then-short : goal.returns-then-short

@@ -1,7 +1,6 @@
 -- `evtchn_fifo::clear_mask::evtchn_fifo_bytes_service_reply` meets its contract. Assumes nothing.
 use Rattle.word.specs.Word.{link_bits}
 use Rattle.evtchn_fifo.proofs.GuestLaws.{reply_clears, reply_serves, reply_short}
-use borrow.Author.Rules.{rules}
 use Rattle.evtchn_fifo.proofs.clear_mask.evtchn_fifo_bytes_service_reply.Goals as goal
 
 pub returns-then-clearing : goal.returns-then-clearing

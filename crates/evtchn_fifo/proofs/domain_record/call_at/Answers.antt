@@ -1,6 +1,5 @@
 -- `evtchn_fifo::domain_record::call_at` meets its contract. Assumes nothing.
 use Rattle.evtchn_fifo.specs.DomainRecord.{call_at}
-use borrow.Author.Rules.{rules}
 use Rattle.evtchn_fifo.proofs.domain_record.call_at.Goals as goal
 
 pub returns : goal.returns

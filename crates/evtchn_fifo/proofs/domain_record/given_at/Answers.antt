@@ -1,6 +1,5 @@
 -- `evtchn_fifo::domain_record::given_at` meets its contract. Assumes nothing.
 use Rattle.evtchn_fifo.specs.DomainRecord.{given_at}
-use borrow.Author.Rules.{rules}
 use Rattle.evtchn_fifo.proofs.domain_record.given_at.Goals as goal
 
 pub returns : goal.returns

@@ -1,7 +1,6 @@
 -- `evtchn_fifo::domain_record::is_under_way` meets its contract. Assumes nothing.
 use Rattle.evtchn_fifo.proofs.UnderWayLaws.{under_way_is}
 use Rattle.evtchn_fifo.specs.DomainRecord.{call_at, owner_at}
-use borrow.Author.Rules.{rules}
 use Rattle.evtchn_fifo.proofs.domain_record.is_under_way.Goals as goal
 
 pub returns-then-some : goal.returns-then-some

@@ -1,6 +1,5 @@
 -- `evtchn_fifo::domain_record::owner_at` meets its contract. Assumes nothing.
 use Rattle.evtchn_fifo.specs.DomainRecord.{owner_at}
-use borrow.Author.Rules.{rules}
 use Rattle.evtchn_fifo.proofs.domain_record.owner_at.Goals as goal
 
 pub returns-then-known : goal.returns-then-known

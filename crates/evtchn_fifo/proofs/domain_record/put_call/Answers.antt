@@ -1,6 +1,5 @@
 -- `evtchn_fifo::domain_record::put_call` meets its contract. Assumes nothing.
 use Rattle.evtchn_fifo.proofs.WriteLaws.{call_numbers}
-use borrow.Author.Rules.{rules}
 use Rattle.evtchn_fifo.proofs.domain_record.put_call.Goals as goal
 
 pub returns : goal.returns

@@ -1,6 +1,5 @@
 -- `evtchn_fifo::domain_record::put_domain` meets its contract. Assumes nothing.
 use Rattle.evtchn_fifo.proofs.WriteLaws.{domain_numbers}
-use borrow.Author.Rules.{rules}
 use Rattle.evtchn_fifo.proofs.domain_record.put_domain.Goals as goal
 
 pub returns : goal.returns

@@ -2,7 +2,6 @@
 use mathlib.Core.Path.{sym, ◌∙◌}
 use Rattle.evtchn_fifo.proofs.ReplyLaws.{under_way_lem}
 use Rattle.evtchn_fifo.proofs.WriteLaws.{next_numbers}
-use borrow.Author.Rules.{rules}
 use Rattle.evtchn_fifo.proofs.domain_record.put_next.Goals as goal
 
 pub returns : goal.returns

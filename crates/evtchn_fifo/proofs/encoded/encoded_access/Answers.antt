@@ -1,6 +1,5 @@
 -- `evtchn_fifo::encoded::encoded_access` meets its contract. Assumes nothing.
 use Rattle.evtchn_fifo.specs.Encoded.{encoded_access}
-use borrow.Author.Rules.{rules}
 use Rattle.evtchn_fifo.proofs.encoded.encoded_access.Goals as goal
 
 pub returns-in-Read : goal.returns-in-Read

@@ -1,6 +1,5 @@
 -- `evtchn_fifo::encoded::encoded_answer` meets its contract. Assumes nothing.
 use Rattle.evtchn_fifo.specs.Encoded.{encoded_answer}
-use borrow.Author.Rules.{rules}
 use Rattle.evtchn_fifo.proofs.encoded.encoded_answer.Goals as goal
 
 pub returns : goal.returns

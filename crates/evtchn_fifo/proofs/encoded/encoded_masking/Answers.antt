@@ -1,6 +1,5 @@
 -- `evtchn_fifo::encoded::encoded_masking` meets its contract. Assumes nothing.
 use Rattle.evtchn_fifo.specs.Encoded.{encoded_masking}
-use borrow.Author.Rules.{rules}
 use Rattle.evtchn_fifo.proofs.encoded.encoded_masking.Goals as goal
 
 pub returns-in-Made : goal.returns-in-Made

@@ -1,6 +1,5 @@
 -- `evtchn_fifo::encoded::encoded_place` meets its contract. Assumes nothing.
 use Rattle.evtchn_fifo.specs.Encoded.{encoded_place}
-use borrow.Author.Rules.{rules}
 use Rattle.evtchn_fifo.proofs.encoded.encoded_place.Goals as goal
 
 pub returns : goal.returns

@@ -1,6 +1,5 @@
 -- `evtchn_fifo::encoded::packed` meets its contract. Assumes nothing.
 use Rattle.evtchn_fifo.specs.Encoded.{unpacked}
-use borrow.Author.Rules.{rules}
 use Rattle.evtchn_fifo.proofs.encoded.packed.Goals as goal
 
 pub returns : goal.returns

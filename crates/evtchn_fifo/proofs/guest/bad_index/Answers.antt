@@ -1,5 +1,4 @@
 -- `evtchn_fifo::guest::bad_index` meets its contract. Assumes nothing.
-use borrow.Author.Rules.{rules}
 use Rattle.evtchn_fifo.proofs.guest.bad_index.Goals as goal
 
 pub returns : goal.returns

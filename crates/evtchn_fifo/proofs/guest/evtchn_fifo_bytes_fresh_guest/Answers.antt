@@ -1,6 +1,5 @@
 -- `evtchn_fifo::guest::evtchn_fifo_bytes_fresh_guest` meets its contract. Assumes nothing.
 use Rattle.evtchn_fifo.specs.Guest.{fresh_guest_bytes}
-use borrow.Author.Rules.{rules}
 use Rattle.evtchn_fifo.proofs.guest.evtchn_fifo_bytes_fresh_guest.Goals as goal
 
 pub returns-then-short : goal.returns-then-short

@@ -1,7 +1,6 @@
 -- `evtchn_fifo::guest::evtchn_fifo_bytes_service` meets its contract. Assumes nothing.
 use Rattle.calls.specs.Guest.{service_start, guest_next, is_serving, guest_due}
 use Rattle.evtchn_fifo.specs.Guest.{service_bytes}
-use borrow.Author.Rules.{rules}
 use Rattle.evtchn_fifo.proofs.guest.evtchn_fifo_bytes_service.Goals as goal
 
 pub returns-then-short : goal.returns-then-short

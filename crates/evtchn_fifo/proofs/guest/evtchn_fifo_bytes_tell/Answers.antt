@@ -5,7 +5,6 @@ use Rattle.evtchn_fifo.specs.Encoded.{encoded_next}
 use Rattle.calls.specs.Guest.{tell_of}
 use native.Mathlib.Omega.{arith}
 use borrow.Author.Tests.{ltb-false}
-use borrow.Author.Rules.{rules}
 use Rattle.evtchn_fifo.proofs.guest.evtchn_fifo_bytes_tell.Goals as goal
 
 pub returns-then-short : goal.returns-then-short

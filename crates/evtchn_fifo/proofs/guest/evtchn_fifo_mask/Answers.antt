@@ -1,6 +1,5 @@
 -- `evtchn_fifo::guest::evtchn_fifo_mask` meets its contract. Assumes nothing.
 use Rattle.evtchn_fifo.specs.Guest.{mask_bytes}
-use borrow.Author.Rules.{rules}
 use Rattle.evtchn_fifo.proofs.guest.evtchn_fifo_mask.Goals as goal
 
 pub returns : goal.returns

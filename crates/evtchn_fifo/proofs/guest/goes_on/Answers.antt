@@ -1,5 +1,4 @@
 -- `evtchn_fifo::guest::goes_on_lem` meets its contract. Assumes nothing.
-use borrow.Author.Rules.{rules}
 use Rattle.evtchn_fifo.proofs.guest.goes_on.Goals as goal
 
 pub returns : goal.returns

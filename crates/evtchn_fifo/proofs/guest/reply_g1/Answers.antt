@@ -1,5 +1,4 @@
 -- `evtchn_fifo::guest::reply_g1` meets its contract. Assumes nothing.
-use borrow.Author.Rules.{rules}
 use Rattle.evtchn_fifo.proofs.guest.reply_g1.Goals as goal
 
 pub returns : goal.returns

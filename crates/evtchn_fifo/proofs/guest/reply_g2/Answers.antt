@@ -2,7 +2,6 @@
 use Rattle.evtchn_fifo.proofs.NumberLaws.{put_same}
 use Rattle.evtchn_fifo.specs.Guest.{guest_move_bytes, service_next_at}
 use Rattle.calls.specs.Guest.{reply_g2, is_serving, guest_due}
-use borrow.Author.Rules.{rules}
 use Rattle.evtchn_fifo.proofs.guest.reply_g2.Goals as goal
 
 pub returns-then-last : goal.returns-then-last

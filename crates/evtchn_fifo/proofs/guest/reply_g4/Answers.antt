@@ -3,7 +3,6 @@ use Rattle.evtchn_fifo.proofs.NumberLaws.{put_same}
 use Rattle.evtchn_fifo.specs.Guest.{guest_move_bytes, service_next_at}
 use Rattle.evtchn_fifo.specs.Numbers.{put_value}
 use Rattle.calls.specs.Guest.{reply_g4, is_serving}
-use borrow.Author.Rules.{rules}
 use Rattle.evtchn_fifo.proofs.guest.reply_g4.Goals as goal
 
 pub returns-then-pending : goal.returns-then-pending

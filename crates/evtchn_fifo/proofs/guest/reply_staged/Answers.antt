@@ -1,6 +1,5 @@
 -- `evtchn_fifo::guest::reply_staged` meets its contract. Assumes nothing.
 use Rattle.calls.specs.Guest.{is_serving, guest_staged}
-use borrow.Author.Rules.{rules}
 use Rattle.evtchn_fifo.proofs.guest.reply_staged.Goals as goal
 
 pub returns-in-None : goal.returns-in-None

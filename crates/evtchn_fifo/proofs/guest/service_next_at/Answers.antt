@@ -1,6 +1,5 @@
 -- `evtchn_fifo::guest::service_next_at` meets its contract. Assumes nothing.
 use Rattle.evtchn_fifo.specs.Guest.{service_next_at}
-use borrow.Author.Rules.{rules}
 use Rattle.evtchn_fifo.proofs.guest.service_next_at.Goals as goal
 
 pub returns-then-free : goal.returns-then-free

@@ -2,7 +2,6 @@
 use Rattle.evtchn_fifo.specs.Guest.{guest_move_bytes, service_next_at}
 use Rattle.evtchn_fifo.specs.Numbers.{put_value}
 use Rattle.calls.specs.Guest.{takes_index, is_serving, guest_due}
-use borrow.Author.Rules.{rules}
 use Rattle.evtchn_fifo.proofs.guest.takes_index.Goals as goal
 
 pub returns-then-zero : goal.returns-then-zero

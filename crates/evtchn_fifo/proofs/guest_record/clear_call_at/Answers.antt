@@ -1,6 +1,5 @@
 -- `evtchn_fifo::guest_record::clear_call_at` meets its contract. Assumes nothing.
 use Rattle.evtchn_fifo.specs.GuestRecord.{clear_call_at}
-use borrow.Author.Rules.{rules}
 use Rattle.evtchn_fifo.proofs.guest_record.clear_call_at.Goals as goal
 
 pub returns : goal.returns

@@ -1,7 +1,6 @@
 -- `evtchn_fifo::guest_record::is_clearing_at` meets its contract. Assumes nothing.
 use Rattle.evtchn_fifo.proofs.GuestLaws.{clearing_is}
 use Rattle.evtchn_fifo.specs.GuestRecord.{clear_call_at}
-use borrow.Author.Rules.{rules}
 use Rattle.evtchn_fifo.proofs.guest_record.is_clearing_at.Goals as goal
 
 pub returns-then-some : goal.returns-then-some

@@ -1,6 +1,5 @@
 -- `evtchn_fifo::guest_record::put_clear` meets its contract. Assumes nothing.
 use Rattle.evtchn_fifo.proofs.WriteLaws.{clear_numbers}
-use borrow.Author.Rules.{rules}
 use Rattle.evtchn_fifo.proofs.guest_record.put_clear.Goals as goal
 
 pub returns : goal.returns

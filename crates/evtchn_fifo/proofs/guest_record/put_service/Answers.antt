@@ -1,6 +1,5 @@
 -- `evtchn_fifo::guest_record::put_service` meets its contract. Assumes nothing.
 use Rattle.evtchn_fifo.proofs.WriteLaws.{service_numbers}
-use borrow.Author.Rules.{rules}
 use Rattle.evtchn_fifo.proofs.guest_record.put_service.Goals as goal
 
 pub returns : goal.returns

@@ -1,6 +1,5 @@
 -- `evtchn_fifo::guest_record::service_at` meets its contract. Assumes nothing.
 use Rattle.evtchn_fifo.specs.GuestRecord.{service_at}
-use borrow.Author.Rules.{rules}
 use Rattle.evtchn_fifo.proofs.guest_record.service_at.Goals as goal
 
 pub returns : goal.returns

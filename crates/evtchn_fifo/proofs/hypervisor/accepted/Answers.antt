@@ -3,7 +3,6 @@ use Rattle.evtchn_fifo.specs.Ledger.{entry_in}
 use Rattle.evtchn_fifo.specs.DomainRecord.{call_at}
 use Rattle.calls.specs.Hypervisor.{accept_port}
 use borrow.Author.Tests.{not-true, not-false}
-use borrow.Author.Rules.{rules}
 use Rattle.evtchn_fifo.proofs.hypervisor.accepted.Goals as goal
 
 pub returns-then-busy : goal.returns-then-busy

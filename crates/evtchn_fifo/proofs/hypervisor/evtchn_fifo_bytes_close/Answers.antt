@@ -5,7 +5,6 @@ use Rattle.evtchn_fifo.proofs.ReplyLaws.{begun_carried, settled_carried}
 use Rattle.evtchn_fifo.specs.Hypervisor.{on_port, start_bytes}
 use Rattle.word.specs.Word.{link_bits}
 use Rattle.calls.specs.Hypervisor.{begin_close}
-use borrow.Author.Rules.{rules}
 use Rattle.evtchn_fifo.proofs.hypervisor.evtchn_fifo_bytes_close.Goals as goal
 
 pub returns-then-short : goal.returns-then-short

@@ -2,7 +2,6 @@
 use native.Mathlib.Omega.{arith}
 use borrow.Author.Tests.{ltb-true, ltb-false}
 use Rattle.evtchn_fifo.specs.Hypervisor.{expand_bytes}
-use borrow.Author.Rules.{rules}
 use Rattle.evtchn_fifo.proofs.hypervisor.evtchn_fifo_bytes_expand_array.Goals as goal
 
 pub returns-then-short : goal.returns-then-short

@@ -1,6 +1,5 @@
 -- `evtchn_fifo::hypervisor::evtchn_fifo_bytes_fresh_domain` meets its contract. Assumes nothing.
 use Rattle.evtchn_fifo.specs.Hypervisor.{fresh_domain_bytes}
-use borrow.Author.Rules.{rules}
 use Rattle.evtchn_fifo.proofs.hypervisor.evtchn_fifo_bytes_fresh_domain.Goals as goal
 
 pub returns-then-short : goal.returns-then-short

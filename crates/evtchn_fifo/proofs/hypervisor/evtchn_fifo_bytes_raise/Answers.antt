@@ -1,7 +1,6 @@
 -- `evtchn_fifo::hypervisor::evtchn_fifo_bytes_raise` meets its contract. Assumes nothing.
 use Rattle.calls.specs.Records.{is_free}
 use mathlib.Core.Path.{refl}
-use borrow.Author.Rules.{rules}
 use Rattle.evtchn_fifo.proofs.hypervisor.evtchn_fifo_bytes_raise.Goals as goal
 
 pub link_call-requires : goal.link_call-requires

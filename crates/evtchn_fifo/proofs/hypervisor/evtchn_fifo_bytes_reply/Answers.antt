@@ -4,7 +4,6 @@ use borrow.Author.Tests.{leb-true, not-true}
 use Rattle.word.specs.Word.{link_bits}
 use Rattle.evtchn_fifo.specs.DomainRecord.{domain_size}
 use Rattle.evtchn_fifo.proofs.ReplyLaws.{port_there, reply_there, reply_missing, reply_idle, reply_short}
-use borrow.Author.Rules.{rules}
 use Rattle.evtchn_fifo.proofs.hypervisor.evtchn_fifo_bytes_reply.Goals as goal
 
 pub u32_at-port-requires : goal.u32_at-port-requires

@@ -2,7 +2,6 @@
 use Rattle.evtchn_fifo.proofs.ReplyLaws.{settled_carried}
 use Rattle.evtchn_fifo.specs.Hypervisor.{on_port, start_bytes}
 use Rattle.calls.specs.Hypervisor.{begin_priority}
-use borrow.Author.Rules.{rules}
 use Rattle.evtchn_fifo.proofs.hypervisor.evtchn_fifo_bytes_set_priority.Goals as goal
 
 pub returns-then-short : goal.returns-then-short

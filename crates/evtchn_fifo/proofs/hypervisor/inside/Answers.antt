@@ -1,5 +1,4 @@
 -- `evtchn_fifo::hypervisor::inside` meets its contract. Assumes nothing.
-use borrow.Author.Rules.{rules}
 use Rattle.evtchn_fifo.proofs.hypervisor.inside.Goals as goal
 
 pub returns : goal.returns

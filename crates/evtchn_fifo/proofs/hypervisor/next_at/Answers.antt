@@ -1,6 +1,5 @@
 -- `evtchn_fifo::hypervisor::next_at` meets its contract. Assumes nothing.
 use Rattle.evtchn_fifo.specs.Hypervisor.{next_at}
-use borrow.Author.Rules.{rules}
 use Rattle.evtchn_fifo.proofs.hypervisor.next_at.Goals as goal
 
 pub returns-then-free : goal.returns-then-free

@@ -1,5 +1,4 @@
 -- `evtchn_fifo::hypervisor::settled` meets its contract. Assumes nothing.
-use borrow.Author.Rules.{rules}
 use Rattle.evtchn_fifo.proofs.hypervisor.settled.Goals as goal
 
 pub returns : goal.returns

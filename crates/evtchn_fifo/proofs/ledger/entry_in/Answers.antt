@@ -1,5 +1,4 @@
 -- `evtchn_fifo::ledger::entry_in` meets its contract. Assumes nothing.
-use borrow.Author.Rules.{rules}
 use Rattle.evtchn_fifo.specs.Ledger.{entry_in}
 use Rattle.evtchn_fifo.proofs.ledger.entry_in.Goals as goal
 

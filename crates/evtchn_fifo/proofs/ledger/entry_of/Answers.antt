@@ -1,7 +1,6 @@
 -- `evtchn_fifo::ledger::entry_of` meets its contract. Assumes nothing.
 use native.Mathlib.Omega.{arith}
 use borrow.Author.Tests.{ltb-true}
-use borrow.Author.Rules.{rules}
 use Rattle.evtchn_fifo.proofs.ledger.entry_of.Goals as goal
 
 pub u16_at-requires : goal.u16_at-requires

@@ -1,8 +1,6 @@
 -- `evtchn_fifo::ledger::evtchn_fifo_bytes_fresh_ledger` meets its contract. The loop's invariant: p entries are filled. Assumes nothing.
-use Prim.Native.Nat.{◌/◌, ◌-◌, ◌≤◌}
-use mathlib.Core.Path.{◌≡◌, refl, ap, ◌∙◌}
+use mathlib.Core.Path.{refl, ap, ◌∙◌}
 use native.Mathlib.Omega.{arith}
-use borrow.Author.Rules.{rules}
 use lib.ListN.{length}
 use Rattle.evtchn_fifo.specs.Ledger.{fill_entries}
 use Rattle.evtchn_fifo.proofs.NumberLaws.{length_put}

@@ -1,12 +1,8 @@
 -- `evtchn_fifo::ledger::evtchn_fifo_bytes_fresh_ledger` meets its contract. The loop's invariant: p entries are filled. Assumes nothing.
 use Prim.Native.Nat.{◌/◌, ◌-◌, ◌≤◌}
-use mathlib.Core.Path.{◌≡◌, refl, ap, ◌∙◌}
-use native.Mathlib.Omega.{arith}
-use borrow.Author.Rules.{rules}
+use mathlib.Core.Path.{◌≡◌}
 use lib.ListN.{length}
 use Rattle.evtchn_fifo.specs.Ledger.{fill_entries}
-use Rattle.evtchn_fifo.proofs.NumberLaws.{length_put}
-use Rattle.evtchn_fifo.proofs.LedgerLaws.{fill_more, fill_all}
 use Rattle.evtchn_fifo.proofs.ledger.evtchn_fifo_bytes_fresh_ledger.Given as goal
 
 abbrev pub invariant-loop-p : goal.invariant-loop-p

@@ -2,7 +2,6 @@
 use native.Mathlib.Omega.{arith}
 use borrow.Author.Tests.{ltb-true, ltb-false}
 use Rattle.evtchn_fifo.specs.Ledger.{put_entry}
-use borrow.Author.Rules.{rules}
 use Rattle.evtchn_fifo.proofs.ledger.put_entry.Goals as goal
 
 pub put_u16-requires : goal.put_u16-requires

@@ -1,6 +1,5 @@
 -- `evtchn_fifo::numbers::narrowed` meets its contract. Assumes nothing.
 use Rattle.evtchn_fifo.specs.Numbers.{narrow}
-use borrow.Author.Rules.{rules}
 use Rattle.evtchn_fifo.proofs.numbers.narrowed.Goals as goal
 
 pub returns-then-fits : goal.returns-then-fits

@@ -1,6 +1,5 @@
 -- `evtchn_fifo::numbers::put_four` meets its contract. Assumes nothing.
 use Rattle.evtchn_fifo.proofs.WriteLaws.{four_numbers}
-use borrow.Author.Rules.{rules}
 use Rattle.evtchn_fifo.proofs.numbers.put_four.Goals as goal
 
 pub returns : goal.returns

@@ -1,7 +1,6 @@
 -- `evtchn_fifo::numbers::put_u32_in` meets its contract. Assumes nothing.
 use native.Mathlib.Omega.{arith}
 use borrow.Author.Tests.{leb-true, leb-false}
-use borrow.Author.Rules.{rules}
 use Rattle.evtchn_fifo.proofs.NumberLaws.{put_there, put_far, put_nowhere}
 use Rattle.evtchn_fifo.proofs.numbers.put_u32_in.Goals as goal
 

@@ -2,7 +2,6 @@
 use native.Mathlib.Omega.{arith}
 use borrow.Author.Tests.{ltb-true, ltb-false}
 use Rattle.evtchn_fifo.specs.Numbers.{put_value}
-use borrow.Author.Rules.{rules}
 use Rattle.evtchn_fifo.proofs.numbers.put_value.Goals as goal
 
 pub put_u32-requires : goal.put_u32-requires

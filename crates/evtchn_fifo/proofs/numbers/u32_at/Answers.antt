@@ -1,6 +1,5 @@
 -- `evtchn_fifo::numbers::u32_at` meets its contract. Assumes nothing.
 use Rattle.evtchn_fifo.specs.Numbers.{number_at}
-use borrow.Author.Rules.{rules}
 use Rattle.evtchn_fifo.proofs.numbers.u32_at.Goals as goal
 
 pub returns : goal.returns

@@ -1,7 +1,6 @@
 -- `evtchn_fifo::numbers::u32_in` meets its contract. Assumes nothing.
 use native.Mathlib.Omega.{arith}
 use borrow.Author.Tests.{leb-true, leb-false}
-use borrow.Author.Rules.{rules}
 use Rattle.evtchn_fifo.proofs.NumberLaws.{number_there, number_far, number_nowhere}
 use Rattle.evtchn_fifo.proofs.numbers.u32_in.Goals as goal
 

@@ -2,7 +2,6 @@
 use native.Mathlib.Omega.{arith}
 use borrow.Author.Tests.{ltb-true, ltb-false}
 use Rattle.evtchn_fifo.specs.Numbers.{value_at}
-use borrow.Author.Rules.{rules}
 use Rattle.evtchn_fifo.proofs.numbers.value_at.Goals as goal
 
 pub u32_at-requires : goal.u32_at-requires

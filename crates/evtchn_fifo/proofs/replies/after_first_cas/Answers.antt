@@ -1,7 +1,6 @@
 -- `evtchn_fifo::replies::after_first_cas` meets its contract. Assumes nothing.
 use Rattle.word.specs.Word.{link_bits}
 use Rattle.evtchn_fifo.proofs.TailLaws.{first_unlinked, first_linked}
-use borrow.Author.Rules.{rules}
 use Rattle.evtchn_fifo.proofs.replies.after_first_cas.Goals as goal
 
 pub returns-then-unlinked : goal.returns-then-unlinked

@@ -3,7 +3,6 @@ use Rattle.word.specs.Word.{link_bits}
 use borrow.Author.Tests.{leb-false}
 use native.Mathlib.Omega.{arith}
 use Rattle.evtchn_fifo.proofs.TailLaws.{later_unlinked, later_last, later_again}
-use borrow.Author.Rules.{rules}
 use Rattle.evtchn_fifo.proofs.replies.after_later_cas.Goals as goal
 
 pub returns-then-unlinked : goal.returns-then-unlinked

@@ -1,7 +1,6 @@
 -- `evtchn_fifo::replies::clear_stale` meets its contract. Assumes nothing.
 use Rattle.evtchn_fifo.specs.Numbers.{put_value}
 use Rattle.calls.specs.Hypervisor.{stale_queue}
-use borrow.Author.Rules.{rules}
 use Rattle.evtchn_fifo.proofs.replies.clear_stale.Goals as goal
 
 pub returns-then-never : goal.returns-then-never

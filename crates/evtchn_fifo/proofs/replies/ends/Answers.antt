@@ -1,5 +1,4 @@
 -- `evtchn_fifo::replies::ends` meets its contract. Assumes nothing.
-use borrow.Author.Rules.{rules}
 use Rattle.evtchn_fifo.proofs.replies.ends.Goals as goal
 
 pub returns : goal.returns

@@ -1,6 +1,5 @@
 -- `evtchn_fifo::replies::ends_tailed` meets its contract. Assumes nothing.
 use Rattle.evtchn_fifo.proofs.ReplyLaws.{tailed_move}
-use borrow.Author.Rules.{rules}
 use Rattle.evtchn_fifo.proofs.replies.ends_tailed.Goals as goal
 
 pub returns : goal.returns

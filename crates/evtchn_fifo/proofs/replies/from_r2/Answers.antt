@@ -1,5 +1,4 @@
 -- `evtchn_fifo::replies::from_r2` meets its contract. Assumes nothing.
-use borrow.Author.Rules.{rules}
 use Rattle.evtchn_fifo.proofs.replies.from_r2.Goals as goal
 
 pub returns-then-none : goal.returns-then-none

@@ -3,7 +3,6 @@ use Rattle.evtchn_fifo.proofs.ReplyLaws.{ends_carried, entry_same}
 use Rattle.calls.specs.Hypervisor.{reply_bind}
 use mathlib.Core.Path.{sym}
 use Rattle.word.specs.Word.{link_bits}
-use borrow.Author.Rules.{rules}
 use Rattle.evtchn_fifo.proofs.replies.reply_bind.Goals as goal
 
 pub returns-then-linked : goal.returns-then-linked

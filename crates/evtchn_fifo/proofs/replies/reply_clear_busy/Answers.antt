@@ -1,7 +1,6 @@
 -- `evtchn_fifo::replies::reply_clear_busy` meets its contract. Assumes nothing.
 use Rattle.word.specs.Word.{link_bits}
 use Rattle.evtchn_fifo.proofs.TailLaws.{cleared_linked, cleared_unlinked}
-use borrow.Author.Rules.{rules}
 use Rattle.evtchn_fifo.proofs.replies.reply_clear_busy.Goals as goal
 
 pub returns-then-linked : goal.returns-then-linked

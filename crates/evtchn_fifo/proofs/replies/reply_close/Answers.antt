@@ -2,7 +2,6 @@
 use Rattle.evtchn_fifo.proofs.ReplyLaws.{ends_carried}
 use Rattle.calls.specs.Hypervisor.{reply_close}
 use Rattle.word.specs.Word.{link_bits}
-use borrow.Author.Rules.{rules}
 use Rattle.evtchn_fifo.proofs.replies.reply_close.Goals as goal
 
 pub entry_of-entry-requires : goal.entry_of-entry-requires

@@ -4,7 +4,6 @@ use Rattle.evtchn_fifo.specs.InPlace.{entry_of}
 use Rattle.evtchn_fifo.proofs.ReplyLaws.{first_is, ends_carried, entry_same, kept, r1_entry, u1_entry}
 use Rattle.calls.specs.declared.types.Owner.TheVariants as owner
 use Rattle.word.specs.Word.{link_bits}
-use borrow.Author.Rules.{rules}
 use Rattle.evtchn_fifo.proofs.replies.reply_first.Goals as goal
 
 pub returns-in-None : goal.returns-in-None

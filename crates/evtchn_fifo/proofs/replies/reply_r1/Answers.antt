@@ -2,7 +2,6 @@
 use Rattle.word.specs.Word.{link_bits}
 use Rattle.evtchn_fifo.proofs.ReplyLaws.{ends_move, r2_move}
 use Rattle.calls.specs.Hypervisor.{reply_r1}
-use borrow.Author.Rules.{rules}
 use Rattle.evtchn_fifo.proofs.replies.reply_r1.Goals as goal
 
 pub returns-then-masked : goal.returns-then-masked

@@ -1,7 +1,6 @@
 -- `evtchn_fifo::replies::reply_r4` meets its contract. Assumes nothing.
 use Rattle.word.specs.Word.{link_bits}
 use Rattle.evtchn_fifo.proofs.TailLaws.{r4_taken, r4_first, r4_later}
-use borrow.Author.Rules.{rules}
 use Rattle.evtchn_fifo.proofs.replies.reply_r4.Goals as goal
 
 pub returns-then-taken : goal.returns-then-taken

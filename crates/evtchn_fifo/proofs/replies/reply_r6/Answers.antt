@@ -1,7 +1,6 @@
 -- `evtchn_fifo::replies::reply_r6` meets its contract. Assumes nothing.
 use Rattle.evtchn_fifo.proofs.ReplyLaws.{ends_move}
 use Rattle.calls.specs.Hypervisor.{reply_r6}
-use borrow.Author.Rules.{rules}
 use Rattle.evtchn_fifo.proofs.replies.reply_r6.Goals as goal
 
 pub returns-then-ready : goal.returns-then-ready

@@ -1,7 +1,6 @@
 -- `evtchn_fifo::replies::reply_set_busy` meets its contract. Assumes nothing.
 use Rattle.word.specs.Word.{link_bits}
 use Rattle.evtchn_fifo.proofs.TailLaws.{busy_unlinked, busy_linked}
-use borrow.Author.Rules.{rules}
 use Rattle.evtchn_fifo.proofs.replies.reply_set_busy.Goals as goal
 
 pub returns-then-unlinked : goal.returns-then-unlinked

@@ -3,7 +3,6 @@ use Rattle.word.specs.Word.{link_bits}
 use Rattle.calls.specs.declared.types.Stage.TheVariants.{First, R2, R3, R4, SetBusy, ClearBusy, R5, R6}
 use Rattle.evtchn_fifo.specs.InPlace.{entry_of}
 use Rattle.evtchn_fifo.proofs.ReplyLaws.{staged_is, kept, r3_entry, r4_entry, set_busy_entry, clear_busy_entry, r5_entry, r6_entry}
-use borrow.Author.Rules.{rules}
 use Rattle.evtchn_fifo.proofs.replies.reply_staged.Goals as goal
 
 pub returns-in-First : goal.returns-in-First

@@ -1,5 +1,4 @@
 -- `evtchn_fifo::replies::to_clear_busy` meets its contract. Assumes nothing.
-use borrow.Author.Rules.{rules}
 use Rattle.evtchn_fifo.proofs.replies.to_clear_busy.Goals as goal
 
 pub returns : goal.returns

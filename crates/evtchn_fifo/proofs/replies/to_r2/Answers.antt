@@ -1,5 +1,4 @@
 -- `evtchn_fifo::replies::to_r2` meets its contract. Assumes nothing.
-use borrow.Author.Rules.{rules}
 use Rattle.evtchn_fifo.proofs.replies.to_r2.Goals as goal
 
 pub returns : goal.returns

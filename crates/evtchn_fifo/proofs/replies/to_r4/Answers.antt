@@ -1,5 +1,4 @@
 -- `evtchn_fifo::replies::to_r4` meets its contract. Assumes nothing.
-use borrow.Author.Rules.{rules}
 use Rattle.evtchn_fifo.proofs.replies.to_r4.Goals as goal
 
 pub returns : goal.returns

@@ -2,7 +2,6 @@
 use Rattle.replay.proofs.FeedLaws.{ends_agree, ends_due, ends_torn, ends_stopped}
 use Rattle.replay.specs.Replay.{report}
 use mathlib.Core.Path.{ap, ◌∙◌}
-use borrow.Author.Rules.{rules}
 use Rattle.replay.proofs.player.evtchn_replay_bytes_report.Goals as goal
 
 pub returns-then-none : goal.returns-then-none

@@ -1,11 +1,8 @@
 -- `replay::player::zero` meets its contract. Assumes nothing.
 -- `replay::player::zero` meets its contract. The loop's invariant: each word below i is 0. Assumes nothing.
 use Prim.Native.Nat.{ℕ, ◌≤◌, ◌<◌, ◌-◌}
-use mathlib.Core.Path.{◌≡◌, refl}
-use native.Mathlib.Omega.{arith}
-use borrow.Author.Rules.{rules}
-use lib.ListN.{length, get_or, length-set}
-use Rattle.calls.proofs.Laws.{filled_more, filled_all}
+use mathlib.Core.Path.{◌≡◌}
+use lib.ListN.{length, get_or}
 use Rattle.replay.proofs.player.zero.Given as goal
 
 abbrev pub invariant-loop-i : goal.invariant-loop-i

@@ -1,5 +1,4 @@
 -- `access_log::line::digits::digit` meets its contract. Assumes nothing.
-use borrow.Author.Rules.{rules}
 use borrow.Author.Tests.{lt-ltb, le-ltb}
 use Rattle.access_log.specs.Line.{digit}
 use Rattle.access_log.proofs.line.digits.digit.Goals as goal

@@ -1,6 +1,5 @@
 -- `access_log::line::digits::put_decimal` meets its contract. Assumes nothing.
 use Rattle.access_log.specs.Line.{decimal}
-use borrow.Author.Rules.{rules}
 use Rattle.access_log.proofs.line.digits.put_decimal.Goals as goal
 
 pub returns : goal.returns

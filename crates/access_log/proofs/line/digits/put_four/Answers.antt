@@ -1,6 +1,5 @@
 -- `access_log::line::digits::put_four` meets its contract. Assumes nothing.
 use Rattle.access_log.proofs.DigitLaws.{four_put}
-use borrow.Author.Rules.{rules}
 use Rattle.access_log.proofs.line.digits.put_four.Goals as goal
 
 pub returns : goal.returns

@@ -1,7 +1,6 @@
 -- `access_log::line::digits::put_hex` meets its contract. Assumes nothing.
 use Rattle.access_log.specs.Line.{hex8}
 use Rattle.access_log.proofs.DigitLaws.{eight_put}
-use borrow.Author.Rules.{rules}
 use Rattle.access_log.proofs.line.digits.put_hex.Goals as goal
 
 pub returns : goal.returns

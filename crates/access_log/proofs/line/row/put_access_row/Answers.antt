@@ -1,6 +1,5 @@
 -- `access_log::line::row::put_access_row` meets its contract. Assumes nothing.
 use Rattle.access_log.proofs.TextLaws.{row_done}
-use borrow.Author.Rules.{rules}
 use Rattle.access_log.proofs.line.row.put_access_row.Goals as goal
 
 pub returns : goal.returns

@@ -1,6 +1,5 @@
 -- `access_log::line::row::put_closing` meets its contract. Assumes nothing.
 use Rattle.access_log.proofs.TextLaws.{closing_done}
-use borrow.Author.Rules.{rules}
 use Rattle.access_log.proofs.line.row.put_closing.Goals as goal
 
 pub returns : goal.returns

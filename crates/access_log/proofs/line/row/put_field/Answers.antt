@@ -1,7 +1,6 @@
 -- `access_log::line::row::put_field` meets its contract. Assumes nothing.
 use Rattle.access_log.specs.Line.Parts.{field_of}
 use Rattle.access_log.specs.Text.{with_bytes}
-use borrow.Author.Rules.{rules}
 use Rattle.access_log.proofs.line.row.put_field.Goals as goal
 
 pub returns-in-Dash : goal.returns-in-Dash

@@ -1,6 +1,5 @@
 -- `access_log::line::row::put_opening` meets its contract. Assumes nothing.
 use Rattle.access_log.proofs.TextLaws.{opening_done}
-use borrow.Author.Rules.{rules}
 use Rattle.access_log.proofs.line.row.put_opening.Goals as goal
 
 pub returns : goal.returns

@@ -1,7 +1,6 @@
 -- `access_log::line::row::put_place` meets its contract. Assumes nothing.
 use Rattle.access_log.specs.Line.{place_of}
 use Rattle.access_log.specs.Text.{with_bytes}
-use borrow.Author.Rules.{rules}
 use Rattle.access_log.proofs.line.row.put_place.Goals as goal
 
 pub returns-in-Word : goal.returns-in-Word

@@ -1,5 +1,4 @@
 -- `access_log::line::row::put_side` meets its contract. Assumes nothing.
-use borrow.Author.Rules.{rules}
 use Rattle.access_log.specs.Line.{side_of}
 use Rattle.access_log.specs.Text.{with_bytes}
 use Rattle.access_log.proofs.line.row.put_side.Goals as goal

@@ -1,7 +1,6 @@
 -- `replay::player::access::guest_access` meets its contract. Assumes nothing.
 use Rattle.replay.proofs.StepLaws.{guest_rests, guest_made}
 use mathlib.Core.Path.{sym, ◌∙◌}
-use borrow.Author.Rules.{rules}
 use Rattle.replay.proofs.player.access.guest_access.Goals as goal
 
 pub returns-then-idle : goal.returns-then-idle

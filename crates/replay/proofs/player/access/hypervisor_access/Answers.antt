@@ -1,7 +1,6 @@
 -- `replay::player::access::hypervisor_access` meets its contract. Assumes nothing.
 use Rattle.replay.proofs.StepLaws.{hypervisor_idle, hypervisor_made}
 use mathlib.Core.Path.{sym, ◌∙◌}
-use borrow.Author.Rules.{rules}
 use Rattle.replay.proofs.player.access.hypervisor_access.Goals as goal
 
 pub returns-then-idle : goal.returns-then-idle

@@ -1,6 +1,5 @@
 -- `replay::player::call::began` meets its contract. Assumes nothing.
 use Rattle.replay.proofs.DueLaws.{began_player}
-use borrow.Author.Rules.{rules}
 use Rattle.replay.proofs.player.call.began.Goals as goal
 
 pub returns : goal.returns

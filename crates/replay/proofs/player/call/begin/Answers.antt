@@ -7,7 +7,6 @@ use Rattle.exported.specs.Run.{ledger_kept}
 use Rattle.exported.specs.Run as run
 use Rattle.machine.specs.declared.types.Start.TheVariants as start
 use mathlib.Core.Path.{ap, refl}
-use borrow.Author.Rules.{rules}
 use Rattle.replay.proofs.player.call.begin.Goals as goal
 
 pub expand-requires : goal.expand-requires

@@ -1,6 +1,5 @@
 -- `replay::player::call::clear_mask` meets its contract. Assumes nothing.
 use Rattle.replay.proofs.StepLaws.{clear_began}
-use borrow.Author.Rules.{rules}
 use Rattle.replay.proofs.player.call.clear_mask.Goals as goal
 
 pub returns : goal.returns

@@ -3,7 +3,6 @@ use Rattle.replay.proofs.CallLaws.{expand_past, expand_added, expand_refused}
 use Rattle.calls.specs.declared.answer.Code.{Code}
 use lib.Dec.{eqb}
 use mathlib.Core.Path.{ap, sym, ◌∙◌}
-use borrow.Author.Rules.{rules}
 use Rattle.replay.proofs.player.call.expand.Goals as goal
 
 pub returns-then-full : goal.returns-then-full

@@ -1,6 +1,5 @@
 -- `replay::player::call::service` meets its contract. Assumes nothing.
 use Rattle.replay.proofs.StepLaws.{service_began}
-use borrow.Author.Rules.{rules}
 use Rattle.replay.proofs.player.call.service.Goals as goal
 
 pub returns : goal.returns

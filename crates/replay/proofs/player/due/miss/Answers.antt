@@ -1,7 +1,6 @@
 -- `replay::player::due::miss` meets its contract. Assumes nothing.
 use Rattle.replay.proofs.DueLaws.{missed_line, missed_form}
 use mathlib.Core.Path.{sym, ◌∙◌}
-use borrow.Author.Rules.{rules}
 use Rattle.replay.proofs.player.due.miss.Goals as goal
 
 pub returns-in-Line : goal.returns-in-Line

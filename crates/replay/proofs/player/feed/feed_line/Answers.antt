@@ -2,7 +2,6 @@
 use Rattle.replay.proofs.FeedLaws.{part_kept}
 use borrow.Author.Tests.{leb-true}
 use mathlib.Core.Path.{sym, ◌∙◌}
-use borrow.Author.Rules.{rules}
 use Rattle.replay.proofs.player.feed.feed_line.Goals as goal
 
 pub play_whole-requires : goal.play_whole-requires

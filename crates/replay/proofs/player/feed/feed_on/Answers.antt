@@ -1,16 +1,11 @@
 -- `replay::player::feed::feed_on` meets its contract. Assumes nothing.
 use native.Mathlib.Nat.{lt_of_le_of_lt}
 use Rattle.replay.proofs.FeedLaws.{over_stays, line_counts, line_one, line_there, line_inside, next_line_lem}
-use Rattle.replay.specs.State.{world_in, feed_at}
 use Rattle.replay.specs.Player.{fed}
-use Rattle.word.specs.Word.{link_bits}
-use borrow.Author.Rules.{rules}
-use lib.Dec.{eqb}
-use lib.ListN.{drop, drop_of_length-le, length}
-use mathlib.Core.Bool.{true}
+use lib.ListN.{drop, drop_of_length-le}
 use native.Mathlib.Omega.{arith}
-use Prim.Native.Nat.{◌+◌, ◌-◌, ◌≤◌}
-use mathlib.Core.Path.{◌∙◌, ◌≡◌, refl, sym}
+use Prim.Native.Nat.{◌+◌}
+use mathlib.Core.Path.{◌∙◌, refl, sym}
 use Rattle.replay.proofs.player.feed.feed_on.Goals as goal
 
 pub loop-at-init : goal.loop-at-init

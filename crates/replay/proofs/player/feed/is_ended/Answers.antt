@@ -1,6 +1,5 @@
 -- `replay::player::feed::is_ended` meets its contract. Assumes nothing.
 use Rattle.replay.proofs.FeedLaws.{last_ended, none_ended}
-use borrow.Author.Rules.{rules}
 use Rattle.replay.proofs.player.feed.is_ended.Goals as goal
 
 pub returns-then-len-gt0 : goal.returns-then-len-gt0

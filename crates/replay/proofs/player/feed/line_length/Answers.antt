@@ -1,12 +1,7 @@
 -- `replay::player::feed::line_length` meets its contract. Assumes nothing.
 -- `replay::player::feed::line_length` meets its contract. The loop's invariant: the line has the i bytes passed and those of the
 -- rest's line. The measure is the number of bytes left. Assumes nothing.
-use mathlib.Core.Path.{◌≡◌}
-use Prim.Native.Nat.{◌+◌, ◌≤◌, ◌-◌}
 use native.Mathlib.Omega.{arith}
-use lib.ListN.{length, drop}
-use borrow.Author.Rules.{rules}
-use Rattle.replay.specs.State.{line_length}
 use Rattle.replay.proofs.FeedLaws.{length_ends, length_goes_on, length_over}
 use Rattle.replay.proofs.player.feed.line_length.Goals as goal
 
@@ -18,9 +13,9 @@ returns-then-ended c = omega (arith, length_ends c.args.text.now c.loop-i.i c.lo
 
 pub loop-i-preserved : goal.loop-i-preserved
 loop-i-preserved c = (
-      omega arith,
-      omega (arith, length_goes_on c.args.text.now c.loop-i.i c.loop-i-test.true c.if-ended.false-raw),
-    )
+  omega arith,
+  omega (arith, length_goes_on c.args.text.now c.loop-i.i c.loop-i-test.true c.if-ended.false-raw),
+)
 
 pub returns : goal.returns
 returns c = omega (arith, length_over c.args.text.now c.loop-i.i c.loop-i-test.false)

@@ -3,11 +3,8 @@
 -- rest's line. The measure is the number of bytes left. Assumes nothing.
 use mathlib.Core.Path.{◌≡◌}
 use Prim.Native.Nat.{◌+◌, ◌≤◌, ◌-◌}
-use native.Mathlib.Omega.{arith}
 use lib.ListN.{length, drop}
-use borrow.Author.Rules.{rules}
 use Rattle.replay.specs.State.{line_length}
-use Rattle.replay.proofs.FeedLaws.{length_ends, length_goes_on, length_over}
 use Rattle.replay.proofs.player.feed.line_length.Given as goal
 
 abbrev pub invariant-loop-i : goal.invariant-loop-i

@@ -1,6 +1,5 @@
 -- `replay::player::feed::play_kept` meets its contract. Assumes nothing.
 use Rattle.replay.proofs.FeedLaws.{kept_goes_on, kept_stops}
-use borrow.Author.Rules.{rules}
 use Rattle.replay.proofs.player.feed.play_kept.Goals as goal
 
 pub returns-then-playing : goal.returns-then-playing

@@ -2,7 +2,6 @@
 use lib.Seq.{take_all}
 use lib.ListN.{length-take}
 use native.Mathlib.Omega.{arith}
-use borrow.Author.Rules.{rules}
 use Rattle.replay.proofs.player.feed.play_start.Goals as goal
 
 pub slice_bounds-play_line-end : goal.slice_bounds-play_line-end

@@ -1,6 +1,5 @@
 -- `replay::player::feed::play_whole` meets its contract. Assumes nothing.
 use Rattle.replay.proofs.FeedLaws.{whole_goes_on, whole_stops}
-use borrow.Author.Rules.{rules}
 use Rattle.replay.proofs.player.feed.play_whole.Goals as goal
 
 pub returns-then-playing : goal.returns-then-playing

@@ -2,7 +2,6 @@
 use Rattle.replay.proofs.OpenLaws.{open_header, open_access, open_answer, open_call}
 use Rattle.access_log.specs.declared.read.Kind.TheVariants as kind
 use mathlib.Core.Path.{ap, ◌∙◌}
-use borrow.Author.Rules.{rules}
 use Rattle.replay.proofs.player.line.open.Goals as goal
 
 pub returns-in-Header : goal.returns-in-Header

@@ -1,7 +1,6 @@
 -- `replay::player::line::play_line` meets its contract. Assumes nothing.
 use Rattle.replay.proofs.OpenLaws.{quick_open, quick_meet}
 use mathlib.Core.Path.{◌∙◌}
-use borrow.Author.Rules.{rules}
 use Rattle.replay.proofs.player.line.play_line.Goals as goal
 
 pub returns-then-none : goal.returns-then-none

@@ -1,7 +1,6 @@
 -- `replay::player::named::access_in` meets its contract. Assumes nothing.
 use Rattle.exported.specs.Decoded.{decoded_access}
 use Rattle.evtchn_fifo.specs.Encoded.{unpacked}
-use borrow.Author.Rules.{rules}
 use Rattle.replay.proofs.player.named.access_in.Goals as goal
 
 pub returns : goal.returns

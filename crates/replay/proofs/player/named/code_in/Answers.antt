@@ -1,6 +1,5 @@
 -- `replay::player::named::code_in` meets its contract. Assumes nothing.
 use Rattle.evtchn_fifo.specs.Encoded.{unpacked}
-use borrow.Author.Rules.{rules}
 use Rattle.replay.proofs.player.named.code_in.Goals as goal
 
 pub returns : goal.returns

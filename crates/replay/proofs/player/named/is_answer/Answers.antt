@@ -1,6 +1,5 @@
 -- `replay::player::named::is_answer` meets its contract. Assumes nothing.
 use Rattle.evtchn_fifo.specs.Encoded.{unpacked}
-use borrow.Author.Rules.{rules}
 use Rattle.replay.proofs.player.named.is_answer.Goals as goal
 
 pub returns : goal.returns
