@@ -24,8 +24,7 @@ fn cut_fallen(table: &mut [u8], number: u64, port: u32, code: u64)
     }
 }
 
-#[unsafe(no_mangle)]
-pub extern "C" fn evtchn_cables_bytes_close(
+pub fn evtchn_cables_bytes_close(
     table: &mut [u8],
     domain: &mut [u8],
     ledger: &mut [u8],
@@ -45,8 +44,7 @@ pub extern "C" fn evtchn_cables_bytes_close(
 }
 
 // Only a close's reply looks at the table: any other costs one test more than without cables.
-#[unsafe(no_mangle)]
-pub extern "C" fn evtchn_cables_bytes_reply(
+pub fn evtchn_cables_bytes_reply(
     table: &mut [u8],
     domain: &mut [u8],
     ledger: &mut [u8],

@@ -61,8 +61,7 @@ fn far_at(table: &[u8], slot: u32, end: u32) -> Far
 }
 
 // A cable between two ports of two domains. Refusals: 23, 24, 64, then 10, 3, 14, 4 of each end in turn, 25, 34.
-#[unsafe(no_mangle)]
-pub extern "C" fn evtchn_cables_bytes_lay(
+pub fn evtchn_cables_bytes_lay(
     table: &mut [u8],
     near: &[u8],
     near_ledger: &[u8],
@@ -133,8 +132,7 @@ fn joined(table: &mut [u8], one: u32, two: u32) -> Laid
 }
 
 // The cable of an end is cut, from either end. Refusals: 23, 64, then 10, 3, 14, 4, then 26.
-#[unsafe(no_mangle)]
-pub extern "C" fn evtchn_cables_bytes_cut(
+pub fn evtchn_cables_bytes_cut(
     table: &mut [u8],
     domain: &[u8],
     ledger: &[u8],
@@ -160,8 +158,7 @@ pub extern "C" fn evtchn_cables_bytes_cut(
 
 // The far end of a cable, whose domain is to raise the port: of the hinted slot if it has the near end, else of the lowest that has it.
 // Each of the two goes its own way to the answer, so that a right hint reads its slot once. Refusals as a cut's.
-#[unsafe(no_mangle)]
-pub extern "C" fn evtchn_cables_bytes_send(
+pub fn evtchn_cables_bytes_send(
     table: &[u8],
     domain: &[u8],
     ledger: &[u8],

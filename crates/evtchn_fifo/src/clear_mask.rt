@@ -22,8 +22,7 @@ fn goes_on(guest: &mut [u8], call: ClearCall, access: Access) -> PackedNext
 }
 
 // The guest clears MASKED of a port by herself: 15, 3, 6; 35 where she has to call unmask.
-#[unsafe(no_mangle)]
-pub extern "C" fn evtchn_fifo_bytes_clear_mask(guest: &mut [u8], port: u64) -> PackedNext
+pub fn evtchn_fifo_bytes_clear_mask(guest: &mut [u8], port: u64) -> PackedNext
     ensures { wrote (unpacked result) guest.new ≡ clear_mask_bytes link_bits guest.old port }
 {
     let short = guest.len() < layout::GUEST_SIZE;
@@ -68,8 +67,7 @@ fn clear_reply(guest: &mut [u8], seen: u32) -> PackedNext
 }
 
 // The reply to the access that was named last, with the word seen: the clear_mask's while one is under way, else the service's.
-#[unsafe(no_mangle)]
-pub extern "C" fn evtchn_fifo_bytes_service_reply(guest: &mut [u8], seen: u32) -> PackedNext
+pub fn evtchn_fifo_bytes_service_reply(guest: &mut [u8], seen: u32) -> PackedNext
     ensures { wrote (unpacked result) guest.new ≡ guest_reply_bytes link_bits guest.old seen }
 {
     let long = layout::GUEST_SIZE <= guest.len();
@@ -84,8 +82,7 @@ pub extern "C" fn evtchn_fifo_bytes_service_reply(guest: &mut [u8], seen: u32) -
 }
 
 // The access that the clear_mask under way waits for, else the service; 16 where neither is.
-#[unsafe(no_mangle)]
-pub extern "C" fn evtchn_fifo_bytes_service_due(guest: &[u8]) -> PackedNext
+pub fn evtchn_fifo_bytes_service_due(guest: &[u8]) -> PackedNext
     ensures { unpacked result ≡ guest_due_bytes link_bits guest.now }
 {
     let short = guest.len() < layout::GUEST_SIZE;

@@ -28,8 +28,7 @@ pub fn service_next_at(call: GuestCall, answer: Answer, count: u32) -> PackedNex
     encoded::encoded_access(access)
 }
 
-#[unsafe(no_mangle)]
-pub extern "C" fn evtchn_fifo_bytes_fresh_guest(guest: &mut [u8]) -> u32
+pub fn evtchn_fifo_bytes_fresh_guest(guest: &mut [u8]) -> u32
     ensures { freshened result guest.new ≡ fresh_guest_bytes guest.old }
 {
     let short = guest.len() < layout::GUEST_SIZE;
@@ -41,8 +40,7 @@ pub extern "C" fn evtchn_fifo_bytes_fresh_guest(guest: &mut [u8]) -> u32
     0
 }
 
-#[unsafe(no_mangle)]
-pub extern "C" fn evtchn_fifo_bytes_service(guest: &mut [u8]) -> PackedNext
+pub fn evtchn_fifo_bytes_service(guest: &mut [u8]) -> PackedNext
     ensures { wrote (unpacked result) guest.new ≡ service_bytes link_bits guest.old }
 {
     let short = guest.len() < layout::GUEST_SIZE;
@@ -223,8 +221,7 @@ pub(crate) fn reply_staged(guest: &mut [u8], seen: u32) -> PackedNext
 }
 
 // A mask of a port by a number of words. With its access its answer is 0 and its count 1; it takes no reply.
-#[unsafe(no_mangle)]
-pub extern "C" fn evtchn_fifo_mask(port: u64, words: u64) -> PackedNext
+pub fn evtchn_fifo_mask(port: u64, words: u64) -> PackedNext
     ensures { unpacked result ≡ mask_bytes link_bits port words }
 {
     let port_number = numbers::narrowed(port);
@@ -233,8 +230,7 @@ pub extern "C" fn evtchn_fifo_mask(port: u64, words: u64) -> PackedNext
     encoded::encoded_masking(masking)
 }
 
-#[unsafe(no_mangle)]
-pub extern "C" fn evtchn_fifo_bytes_tell(guest: &mut [u8], words: u64) -> PackedNext
+pub fn evtchn_fifo_bytes_tell(guest: &mut [u8], words: u64) -> PackedNext
     ensures { wrote (unpacked result) guest.new ≡ tell_bytes guest.old words }
 {
     let short = guest.len() < layout::GUEST_SIZE;

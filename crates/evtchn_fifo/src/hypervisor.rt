@@ -36,8 +36,7 @@ fn next_at(domain: &[u8], call: Call, answer: Answer, count: u32) -> PackedNext
     encoded::encoded_access(access)
 }
 
-#[unsafe(no_mangle)]
-pub extern "C" fn evtchn_fifo_bytes_fresh_domain(domain: &mut [u8]) -> u32
+pub fn evtchn_fifo_bytes_fresh_domain(domain: &mut [u8]) -> u32
     ensures { freshened result domain.new ≡ fresh_domain_bytes domain.old }
 {
     let short = domain.len() < layout::DOMAIN_SIZE;
@@ -49,8 +48,7 @@ pub extern "C" fn evtchn_fifo_bytes_fresh_domain(domain: &mut [u8]) -> u32
     0
 }
 
-#[unsafe(no_mangle)]
-pub extern "C" fn evtchn_fifo_bytes_init_control(
+pub fn evtchn_fifo_bytes_init_control(
     domain: &mut [u8],
     vcpu: u64,
     frame: u64,
@@ -77,12 +75,7 @@ pub extern "C" fn evtchn_fifo_bytes_init_control(
     }
 }
 
-#[unsafe(no_mangle)]
-pub extern "C" fn evtchn_fifo_bytes_expand_array(
-    domain: &mut [u8],
-    frame: u64,
-    frames: u64,
-) -> PackedNext
+pub fn evtchn_fifo_bytes_expand_array(domain: &mut [u8], frame: u64, frames: u64) -> PackedNext
     ensures { wrote (unpacked result) domain.new ≡ expand_bytes link_bits domain.old frame frames }
 {
     let short = domain.len() < layout::DOMAIN_SIZE;
@@ -154,12 +147,7 @@ fn inside(domain: &[u8], port: Port) -> bool
     records::in_array(pages, port)
 }
 
-#[unsafe(no_mangle)]
-pub extern "C" fn evtchn_fifo_bytes_bind(
-    domain: &mut [u8],
-    ledger: &mut [u8],
-    port: u64,
-) -> PackedNext
+pub fn evtchn_fifo_bytes_bind(domain: &mut [u8], ledger: &mut [u8], port: u64) -> PackedNext
     ensures { carried (unpacked result) domain.new ledger.new ≡ bind_bytes link_bits domain.old ledger.old port }
 {
     let short = domain.len() < layout::DOMAIN_SIZE;
@@ -184,12 +172,7 @@ pub extern "C" fn evtchn_fifo_bytes_bind(
     }
 }
 
-#[unsafe(no_mangle)]
-pub extern "C" fn evtchn_fifo_bytes_close(
-    domain: &mut [u8],
-    ledger: &mut [u8],
-    port: u64,
-) -> PackedNext
+pub fn evtchn_fifo_bytes_close(domain: &mut [u8], ledger: &mut [u8], port: u64) -> PackedNext
     ensures { carried (unpacked result) domain.new ledger.new ≡ close_bytes link_bits domain.old ledger.old port }
 {
     let short = domain.len() < layout::DOMAIN_SIZE;
@@ -214,8 +197,7 @@ pub extern "C" fn evtchn_fifo_bytes_close(
     }
 }
 
-#[unsafe(no_mangle)]
-pub extern "C" fn evtchn_fifo_bytes_set_priority(
+pub fn evtchn_fifo_bytes_set_priority(
     domain: &mut [u8],
     ledger: &mut [u8],
     port: u64,
@@ -268,23 +250,13 @@ fn link_call(domain: &mut [u8], ledger: &mut [u8], port: u64, owner: Owner) -> P
     }
 }
 
-#[unsafe(no_mangle)]
-pub extern "C" fn evtchn_fifo_bytes_raise(
-    domain: &mut [u8],
-    ledger: &mut [u8],
-    port: u64,
-) -> PackedNext
+pub fn evtchn_fifo_bytes_raise(domain: &mut [u8], ledger: &mut [u8], port: u64) -> PackedNext
     ensures { carried (unpacked result) domain.new ledger.new ≡ raise_bytes link_bits domain.old ledger.old port }
 {
     link_call(domain, ledger, port, Owner::Raise)
 }
 
-#[unsafe(no_mangle)]
-pub extern "C" fn evtchn_fifo_bytes_unmask(
-    domain: &mut [u8],
-    ledger: &mut [u8],
-    port: u64,
-) -> PackedNext
+pub fn evtchn_fifo_bytes_unmask(domain: &mut [u8], ledger: &mut [u8], port: u64) -> PackedNext
     ensures { carried (unpacked result) domain.new ledger.new ≡ unmask_bytes link_bits domain.old ledger.old port }
 {
     link_call(domain, ledger, port, Owner::Unmask)
@@ -292,12 +264,7 @@ pub extern "C" fn evtchn_fifo_bytes_unmask(
 
 // The reply to the access that was named last, with the word seen. Here and in the guest's reply each refusal stands behind what
 // its test lets through: the compiler lays code out in that order, so that a call which goes on takes no jump.
-#[unsafe(no_mangle)]
-pub extern "C" fn evtchn_fifo_bytes_reply(
-    domain: &mut [u8],
-    ledger: &mut [u8],
-    seen: u32,
-) -> PackedNext
+pub fn evtchn_fifo_bytes_reply(domain: &mut [u8], ledger: &mut [u8], seen: u32) -> PackedNext
     ensures { carried (unpacked result) domain.new ledger.new ≡ reply_bytes link_bits domain.old ledger.old seen }
 {
     let long = layout::DOMAIN_SIZE <= domain.len();
@@ -317,8 +284,7 @@ pub extern "C" fn evtchn_fifo_bytes_reply(
 }
 
 // The access that the call under way waits for; 16 where none is.
-#[unsafe(no_mangle)]
-pub extern "C" fn evtchn_fifo_bytes_due(domain: &[u8]) -> PackedNext
+pub fn evtchn_fifo_bytes_due(domain: &[u8]) -> PackedNext
     ensures { unpacked result ≡ due_bytes link_bits domain.now }
 {
     let short = domain.len() < layout::DOMAIN_SIZE;

@@ -50,8 +50,7 @@ pub const CLEAR_WORD: usize = 96;
 pub const CLEAR_COUNT: usize = 100;
 
 // The number of this layout. It changes with any place, size or code.
-#[unsafe(no_mangle)]
-pub extern "C" fn evtchn_fifo_layout() -> u32
+pub fn evtchn_fifo_layout() -> u32
     ensures { result ≡ layout_number }
 {
     2

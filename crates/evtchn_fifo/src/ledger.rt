@@ -47,8 +47,7 @@ pub fn put_entry(ledger: &mut [u8], port: Port, entry: u16)
 }
 
 // Every entry fresh, whatever the bytes held. The answer is 0.
-#[unsafe(no_mangle)]
-pub extern "C" fn evtchn_fifo_bytes_fresh_ledger(ledger: &mut [u8]) -> u32
+pub fn evtchn_fifo_bytes_fresh_ledger(ledger: &mut [u8]) -> u32
     ensures { freshened result ledger.new ≡ fresh_ledger_bytes ledger.old }
 {
     let fresh = word::entry::fresh_entry();

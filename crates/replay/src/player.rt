@@ -54,8 +54,7 @@ fn zero(words: &mut [u32])
 }
 
 // The start: all that is lent is made fresh, whatever it held, and the header is due.
-#[unsafe(no_mangle)]
-pub extern "C" fn evtchn_replay_bytes_start(
+pub fn evtchn_replay_bytes_start(
     domain: &mut [u8; 100],
     ledger: &mut [u8],
     guest: &mut [u8; 104],
@@ -81,8 +80,7 @@ pub extern "C" fn evtchn_replay_bytes_start(
 }
 
 // A piece of the log.
-#[unsafe(no_mangle)]
-pub extern "C" fn evtchn_replay_bytes_feed(
+pub fn evtchn_replay_bytes_feed(
     position: Position,
     domain: &mut [u8; 100],
     ledger: &mut [u8],
@@ -106,8 +104,7 @@ pub extern "C" fn evtchn_replay_bytes_feed(
 }
 
 // The report, if the log ends here.
-#[unsafe(no_mangle)]
-pub extern "C" fn evtchn_replay_bytes_report(position: Position) -> Report
+pub fn evtchn_replay_bytes_report(position: Position) -> Report
     ensures { (line due : List ℕ) (w : World) → length line ≡ 64 → result ≡ reports (feed_at position line due w) }
 {
     let lines = position.lines;
