@@ -1,22 +1,26 @@
-// A script on standard input: words with blanks or line ends between them. No contract can say what is read.
+// A script that a reader gives, as standard input: words with blanks or line ends between them. No contract can say what is read.
+// A function reads a byte at a time, so its reader is a buffered one.
 #![tactic(auto)]
 
 ghost use Rattle.std.specs.Prelude.{◌≡◌, ◌==◌};
 ghost use Rattle.script.specs.Names.{with_letter, ends_name, letters_after, place_after, place_of};
 
+use std::io;
+use std::io::{Read, Write};
+
 // A word: its last eight letters as one number, its name; its digits as a decimal and as a hexadecimal number.
 #[derive(Clone, Copy)]
-struct Read {
+struct Scanned {
     name: u64,
     decimal: u64,
     hex: u64,
 }
 
 // The next byte; 0 where the script ends.
-fn next_byte() -> u8 {
+fn next_byte(input: &mut impl Read) -> io::Result<u8> {
     let mut one = [0u8; 1];
-    io::read_full(0, &mut one);
-    one[0]
+    input.read(&mut one)?;
+    Ok(one[0])
 }
 
 fn is_blank(byte: u8) -> bool {
@@ -57,64 +61,67 @@ fn with_letter(name: u64, byte: u8) -> u64
     name << 8 | wide(byte)
 }
 
-fn with_byte(token: Read, byte: u8) -> Read {
+fn with_byte(token: Scanned, byte: u8) -> Scanned {
     let value = digit(byte);
     let tens = token.decimal % 1_000_000_000_000_000_000 * 10;
-    Read {
+    Scanned {
         name: with_letter(token.name, byte),
-        decimal: std::num::wrapping_add_u64(tens, value),
+        decimal: tens.wrapping_add(value),
         hex: token.hex << 4 | value,
     }
 }
 
 // The first byte that is no blank.
-fn first_byte() -> u8 {
-    let mut byte = next_byte();
-    let mut turns: u32 = 65536;
-    while turns > 0 && is_blank(byte) {
-        byte = next_byte();
-        turns -= 1;
+fn first_byte(input: &mut impl Read) -> io::Result<u8> {
+    let mut byte = next_byte(input)?;
+    for _ in 0..65536 {
+        if !is_blank(byte) {
+            break;
+        }
+        byte = next_byte(input)?;
     }
-    byte
+    Ok(byte)
 }
 
 // The next word; none of its letters where the script ends.
-fn token() -> Read {
-    let mut byte = first_byte();
-    let mut token = Read {
+fn token(input: &mut impl Read) -> io::Result<Scanned> {
+    let mut byte = first_byte(input)?;
+    let mut token = Scanned {
         name: 0,
         decimal: 0,
         hex: 0,
     };
-    let mut turns: u32 = 256;
-    while turns > 0 && is_letter(byte) {
+    for _ in 0..256 {
+        if !is_letter(byte) {
+            break;
+        }
         token = with_byte(token, byte);
-        byte = next_byte();
-        turns -= 1;
+        byte = next_byte(input)?;
     }
-    token
+    Ok(token)
 }
 
-pub fn name() -> u64 {
-    let read = token();
-    read.name
+pub fn name(input: &mut impl Read) -> io::Result<u64> {
+    let read = token(input)?;
+    Ok(read.name)
 }
 
 // A decimal number.
-pub fn number() -> u64 {
-    let read = token();
-    read.decimal
+pub fn number(input: &mut impl Read) -> io::Result<u64> {
+    let read = token(input)?;
+    Ok(read.decimal)
 }
 
 // A decimal number modulo 2^32.
-pub fn small() -> u32 {
-    low(number())
+pub fn small(input: &mut impl Read) -> io::Result<u32> {
+    let value = number(input)?;
+    Ok(low(value))
 }
 
 // A hexadecimal number modulo 2^32.
-pub fn word() -> u32 {
-    let read = token();
-    low(read.hex)
+pub fn word(input: &mut impl Read) -> io::Result<u32> {
+    let read = token(input)?;
+    Ok(low(read.hex))
 }
 
 fn low(value: u64) -> u32 {
@@ -149,7 +156,7 @@ fn place_after(at: u32, byte: u8) -> u32
 {
     let ends = byte == b' ';
     if ends {
-        return std::num::wrapping_add_u32(at, 1);
+        return at.wrapping_add(1);
     }
     at
 }
@@ -185,20 +192,22 @@ pub fn is(name: u64, text: &[u8]) -> bool
     place(name, text) == 1
 }
 
-// Copies a byte to standard output; whether it ends no line.
-fn copy_byte(print: bool) -> bool {
-    let byte = next_byte();
+// Copies a byte to the output; whether it ends no line.
+fn copy_byte(input: &mut impl Read, out: &mut impl Write, print: bool) -> io::Result<bool> {
+    let byte = next_byte(input)?;
     let inside = byte >= b' ';
     if inside && print {
-        io::write_all(1, &[byte]);
+        out.write_all(&[byte])?;
     }
-    inside
+    Ok(inside)
 }
 
 // The rest of a line, printed or not, without its line end.
-pub fn line(print: bool) {
-    let mut turns: u32 = 65536;
-    while turns > 0 && copy_byte(print) {
-        turns -= 1;
+pub fn line(input: &mut impl Read, out: &mut impl Write, print: bool) -> io::Result<()> {
+    for _ in 0..65536 {
+        if !copy_byte(input, out, print)? {
+            break;
+        }
     }
+    Ok(())
 }
