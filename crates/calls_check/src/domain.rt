@@ -2,51 +2,60 @@
 use crate::state::State;
 use crate::{expect, guest, ledger, record, state};
 use script::{is, place};
+use std::io;
+use std::io::Read;
 
 // The state after a command.
-fn turn(now: State, kept: State, name: u64) -> State {
+fn turn(input: &mut impl Read, now: State, kept: State, name: u64) -> io::Result<State> {
     match place(name, b"back short set begun fresh") {
-        1 => kept,
-        2 => state::reply_short(now),
-        3 => record::set(now, script::name()),
-        4 => record::begun(),
-        5 => state::fresh(),
-        _ => state::called(now, name),
+        1 => Ok(kept),
+        2 => state::reply_short(input, now),
+        3 => {
+            let part = script::name(input)?;
+            record::set(input, now, part)
+        }
+        4 => record::begun(input),
+        5 => Ok(state::fresh()),
+        _ => state::called(input, now, name),
     }
 }
 
 // Whether what is expected of a state holds, or a part of the test on a guest or on a long ledger does.
-fn holds(now: State, kept: State, kind: u32) -> bool {
+fn holds(input: &mut impl Read, now: State, kept: State, kind: u32) -> io::Result<bool> {
     match kind {
-        1 => expect::holds(now, kept, script::name()),
-        2 => guest::part(),
-        _ => ledger::part(),
+        1 => {
+            let name = script::name(input)?;
+            expect::holds(input, now, kept, name)
+        }
+        2 => guest::part(input),
+        _ => ledger::part(input),
     }
 }
 
 // Whether all names up to `end` are known, and all that is expected holds.
-pub(crate) fn test() -> bool {
+pub(crate) fn test(input: &mut impl Read) -> io::Result<bool> {
     let mut now = state::fresh();
     let mut kept = state::fresh();
     let mut ok = true;
-    let mut name = script::name();
-    let mut turns: u32 = 1000;
-    while turns > 0 && !is(name, b"end") {
+    let mut name = script::name(input)?;
+    for _ in 0..1000 {
+        if is(name, b"end") {
+            break;
+        }
         let kind = place(name, b"> guest ledger");
         if is(name, b"keep") {
             kept = now;
         } else if kind != 0 {
-            if !holds(now, kept, kind) {
+            if !holds(input, now, kept, kind)? {
                 ok = false;
             }
         } else {
-            now = turn(now, kept, name);
+            now = turn(input, now, kept, name)?;
             if !now.known {
                 ok = false;
             }
         }
-        name = script::name();
-        turns -= 1;
+        name = script::name(input)?;
     }
-    ok
+    Ok(ok)
 }

@@ -7,6 +7,8 @@ use calls::hypervisor::due;
 use calls::records;
 use calls::types::{Domain, Masking, Next};
 use script::{place, small, word};
+use std::io;
+use std::io::Read;
 use word::{Port, Queue};
 
 fn is_free(domain: Domain) -> bool {
@@ -44,24 +46,34 @@ fn mask_made(port: u32, words: u32) -> bool {
     }
 }
 
-fn mask_refused(port: u32, words: u32) -> bool {
+fn mask_refused(input: &mut impl Read, port: u32, words: u32) -> io::Result<bool> {
     match calls::guest::mask(Port(port), words) {
-        Masking::Made(_, _, _) => false,
+        Masking::Made(_, _, _) => Ok(false),
         Masking::Refused(answer, count) => {
-            comes_to(Next::Answer(answer, count), numbers::refusal())
+            Ok(comes_to(Next::Answer(answer, count), numbers::refusal(input)?))
         }
     }
 }
 
-fn record_holds(domain: Domain, ledger: [u16; 16], name: u64) -> bool {
-    match place(name, b"entry tail count mask nomask") {
-        1 => entry_is(ledger, small(), word()),
-        2 => tail_is(domain, small(), small()),
-        3 => count_is(domain, small()),
-        4 => mask_made(small(), small()),
-        5 => mask_refused(small(), small()),
+fn record_holds(
+    input: &mut impl Read,
+    domain: Domain,
+    ledger: [u16; 16],
+    name: u64,
+) -> io::Result<bool> {
+    let holds = match place(name, b"entry tail count mask nomask") {
+        1 => entry_is(ledger, small(input)?, word(input)?),
+        2 => tail_is(domain, small(input)?, small(input)?),
+        3 => count_is(domain, small(input)?),
+        4 => mask_made(small(input)?, small(input)?),
+        5 => {
+            let port = small(input)?;
+            let words = small(input)?;
+            mask_refused(input, port, words)?
+        }
         _ => false,
-    }
+    };
+    Ok(holds)
 }
 
 // Whether an access is named, and is what the record waits for.
@@ -69,31 +81,32 @@ fn names(domain: Domain, next: Next, access: Numbers) -> bool {
     comes_to(next, access) && comes_to(due(domain), access)
 }
 
-fn next_holds(s: State, name: u64) -> bool {
+fn next_holds(input: &mut impl Read, s: State, name: u64) -> io::Result<bool> {
     let domain = s.domain;
     let next = s.next;
     let ledger = s.ledger;
-    match place(name, b"names waits gave answers") {
-        1 => names(domain, next, numbers::access()),
-        2 => comes_to(due(domain), numbers::access()),
-        3 => comes_to(next, numbers::answer()),
-        4 => comes_to(next, numbers::plain_answer()) && is_free(domain),
-        _ => record_holds(domain, ledger, name),
-    }
+    let holds = match place(name, b"names waits gave answers") {
+        1 => names(domain, next, numbers::access(input)?),
+        2 => comes_to(due(domain), numbers::access(input)?),
+        3 => comes_to(next, numbers::answer(input)?),
+        4 => comes_to(next, numbers::plain_answer(input)?) && is_free(domain),
+        _ => record_holds(input, domain, ledger, name)?,
+    };
+    Ok(holds)
 }
 
 // Whether a call was refused: nothing changed, and nothing is counted.
-fn refused(now: State, kept: State) -> bool {
+fn refused(input: &mut impl Read, now: State, kept: State) -> io::Result<bool> {
     let next = now.next;
-    comes_to(next, numbers::refusal()) && same(now, kept)
+    Ok(comes_to(next, numbers::refusal(input)?) && same(now, kept))
 }
 
 // Whether what the script expects of a state holds; `same`, `changed` and `refused` compare it with the one kept.
-pub(crate) fn holds(now: State, kept: State, name: u64) -> bool {
+pub(crate) fn holds(input: &mut impl Read, now: State, kept: State, name: u64) -> io::Result<bool> {
     match place(name, b"refused same changed") {
-        1 => refused(now, kept),
-        2 => same(now, kept),
-        3 => !same(now, kept),
-        _ => next_holds(now, name),
+        1 => refused(input, now, kept),
+        2 => Ok(same(now, kept)),
+        3 => Ok(!same(now, kept)),
+        _ => next_holds(input, now, name),
     }
 }

@@ -5,6 +5,8 @@ use crate::state::{call, is_call, sized};
 use calls::records::Lookup;
 use calls::types::{Answer, Domain, Next};
 use script::{is, place, small, word};
+use std::io;
+use std::io::Read;
 use word::Port;
 
 // A domain, what the last call or reply came to, and whether all that was expected held.
@@ -31,13 +33,14 @@ fn entry_is(ledger: &[u16], port: u32, entry: u32) -> bool {
     }
 }
 
-fn holds(next: Next, ledger: &[u16], name: u64) -> bool {
-    match place(name, b"names gave entry") {
-        1 => comes_to(next, numbers::access()),
-        2 => comes_to(next, numbers::answer()),
-        3 => entry_is(ledger, small(), word()),
+fn holds(input: &mut impl Read, next: Next, ledger: &[u16], name: u64) -> io::Result<bool> {
+    let holds = match place(name, b"names gave entry") {
+        1 => comes_to(next, numbers::access(input)?),
+        2 => comes_to(next, numbers::answer(input)?),
+        3 => entry_is(ledger, small(input)?, word(input)?),
         _ => false,
-    }
+    };
+    Ok(holds)
 }
 
 fn judged(h: Held, ok: bool) -> Held {
@@ -50,69 +53,79 @@ fn judged(h: Held, ok: bool) -> Held {
     }
 }
 
-fn called(h: Held, ledger: &mut [u16], name: u64) -> Held {
+fn called(input: &mut impl Read, h: Held, ledger: &mut [u16], name: u64) -> io::Result<Held> {
     let domain = h.domain;
-    let outcome = call(domain, ledger, name);
+    let outcome = call(input, domain, ledger, name)?;
     let after = outcome.domain;
     let next = outcome.next;
-    Held {
+    Ok(Held {
         domain: after,
         next: next,
         ok: h.ok,
-    }
+    })
 }
 
-fn turn(h: Held, ledger: &mut [u16], name: u64) -> Held {
+fn turn(input: &mut impl Read, h: Held, ledger: &mut [u16], name: u64) -> io::Result<Held> {
     let next = h.next;
     match place(name, b"> begun") {
-        1 => judged(h, holds(next, ledger, script::name())),
-        2 => begun(small(), h.ok),
+        1 => {
+            let expected = script::name(input)?;
+            Ok(judged(h, holds(input, next, ledger, expected)?))
+        }
+        2 => Ok(begun(small(input)?, h.ok)),
         _ => {
             if is_call(name) {
-                return called(h, ledger, name);
+                return called(input, h, ledger, name);
             }
-            judged(h, false)
+            Ok(judged(h, false))
         }
     }
 }
 
 // Whether all names up to `done` are known, and all that is expected holds.
-fn run(ledger: &mut [u16]) -> bool {
+fn run(input: &mut impl Read, ledger: &mut [u16]) -> io::Result<bool> {
     let mut held = begun(0, true);
-    let mut name = script::name();
-    let mut turns: u32 = 1000;
-    while turns > 0 && !is(name, b"done") {
-        held = turn(held, ledger, name);
-        name = script::name();
-        turns -= 1;
+    let mut name = script::name(input)?;
+    for _ in 0..1000 {
+        if is(name, b"done") {
+            break;
+        }
+        held = turn(input, held, ledger, name)?;
+        name = script::name(input)?;
     }
-    held.ok
+    Ok(held.ok)
 }
 
-fn run_first(ledger: &mut [u16], length: usize) -> bool {
+fn run_first(input: &mut impl Read, ledger: &mut [u16], length: usize) -> io::Result<bool> {
     if length <= ledger.len() {
-        return run(&mut ledger[..length]);
+        return run(input, &mut ledger[..length]);
     }
-    false
+    Ok(false)
 }
 
 // A ledger of so many fresh entries.
-fn with_fresh(length: usize) -> bool {
+fn with_fresh(input: &mut impl Read, length: usize) -> io::Result<bool> {
     let mut ledger = [7u16; 131073];
-    run_first(&mut ledger, length)
+    run_first(input, &mut ledger, length)
 }
 
 // A ledger of so many bound ports.
-fn with_bound(length: usize) -> bool {
+fn with_bound(input: &mut impl Read, length: usize) -> io::Result<bool> {
     let mut ledger = [0x0107u16; 131073];
-    run_first(&mut ledger, length)
+    run_first(input, &mut ledger, length)
 }
 
 // The script gives the ledger's entries, fresh or bound, and their number.
-pub(crate) fn part() -> bool {
-    match place(script::name(), b"fresh bound") {
-        1 => with_fresh(small() as usize),
-        2 => with_bound(small() as usize),
-        _ => false,
+pub(crate) fn part(input: &mut impl Read) -> io::Result<bool> {
+    match place(script::name(input)?, b"fresh bound") {
+        1 => {
+            let length = small(input)? as usize;
+            with_fresh(input, length)
+        }
+        2 => {
+            let length = small(input)? as usize;
+            with_bound(input, length)
+        }
+        _ => Ok(false),
     }
 }

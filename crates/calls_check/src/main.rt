@@ -13,42 +13,51 @@ mod record;
 mod state;
 
 use script::place;
+use std::io;
+use std::io::{BufReader, BufWriter, Read, Write};
 
-fn test() {
-    script::line(true);
-    if domain::test() {
-        io::write_all(1, b" ok\n");
+fn test(input: &mut impl Read, out: &mut impl Write) -> io::Result<()> {
+    script::line(input, out, true)?;
+    if domain::test(input)? {
+        out.write_all(b" ok\n")
     } else {
-        io::write_all(1, b" FAILED\n");
+        out.write_all(b" FAILED\n")
     }
 }
 
-fn total(tests: u32) {
-    io::print_decimal(1, tests as u64);
-    io::write_all(1, b" tests\n");
+fn total(out: &mut impl Write, tests: u32) -> io::Result<()> {
+    writeln!(out, "{tests} tests")
 }
 
 // The script's next test or remark: 1, 2, or 0 where there is none.
-fn next() -> u32 {
-    let kind = place(script::name(), b"test #");
+fn next(input: &mut impl Read, out: &mut impl Write) -> io::Result<u32> {
+    let kind = place(script::name(input)?, b"test #");
     match kind {
-        1 => test(),
-        2 => script::line(false),
+        1 => test(input, out)?,
+        2 => script::line(input, out, false)?,
         _ => {}
     }
-    kind
+    Ok(kind)
 }
 
-fn main() {
+fn run(input: &mut impl Read, out: &mut impl Write) -> io::Result<()> {
     let mut tests = 0;
-    let mut kind = next();
-    let mut turns: u32 = 1000;
-    while turns > 0 && kind != 0 {
+    let mut kind = next(input, out)?;
+    for _ in 0..1000 {
+        if kind == 0 {
+            break;
+        }
         if kind == 1 {
             tests = calls::records::one_more(tests);
         }
-        kind = next();
-        turns -= 1;
+        kind = next(input, out)?;
     }
-    total(tests);
+    total(out, tests)
+}
+
+fn main(rt: HostRuntime) -> io::Result<()> {
+    let mut input = BufReader::new(rt.alloc(), rt.reader())?;
+    let mut out = BufWriter::new(rt.alloc(), io::writer(&rt))?;
+    run(&mut input, &mut out)?;
+    out.flush()
 }

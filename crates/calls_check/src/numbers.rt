@@ -1,6 +1,8 @@
 // What calls come to, as numbers that the script gives too.
 use calls::types::{Access, Answer, Next, Place};
 use script::{name, place, small, word};
+use std::io;
+use std::io::Read;
 
 // An access: its kind, its place's kind and index, its old word and operand. An answer: its number, value and count.
 #[derive(Clone, Copy)]
@@ -42,10 +44,10 @@ fn of_access(access: Access) -> Numbers {
 }
 
 // The access that the script gives.
-pub(crate) fn access() -> Numbers {
-    let kind = place(name(), b"read store or and swap cas");
-    let spot = place(name(), b"word ready head");
-    with_place(kind, spot, small(), word(), word())
+pub(crate) fn access(input: &mut impl Read) -> io::Result<Numbers> {
+    let kind = place(name(input)?, b"read store or and swap cas");
+    let spot = place(name(input)?, b"word ready head");
+    Ok(with_place(kind, spot, small(input)?, word(input)?, word(input)?))
 }
 
 pub(crate) fn given(number: u32, value: u32, count: u32) -> Numbers {
@@ -72,13 +74,13 @@ pub(crate) fn comes_to(next: Next, expected: Numbers) -> bool {
 }
 
 // The answer that the script gives: number, value and count.
-pub(crate) fn answer() -> Numbers {
-    given(small(), small(), small())
+pub(crate) fn answer(input: &mut impl Read) -> io::Result<Numbers> {
+    Ok(given(small(input)?, small(input)?, small(input)?))
 }
 
 // An answer without a value: number and count.
-pub(crate) fn plain_answer() -> Numbers {
-    given(small(), 0, small())
+pub(crate) fn plain_answer(input: &mut impl Read) -> io::Result<Numbers> {
+    Ok(given(small(input)?, 0, small(input)?))
 }
 
 // A mask's access.
@@ -87,6 +89,6 @@ pub(crate) fn mask_of(port: u32) -> Numbers {
 }
 
 // A refusal: its number; nothing is counted.
-pub(crate) fn refusal() -> Numbers {
-    given(small(), 0, 0)
+pub(crate) fn refusal(input: &mut impl Read) -> io::Result<Numbers> {
+    Ok(given(small(input)?, 0, 0))
 }

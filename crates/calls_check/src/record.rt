@@ -4,11 +4,13 @@ use crate::state::{State, sized, with_domain};
 use calls::records;
 use calls::types::{Call, Domain, Owner, Stage};
 use script::{name, place, small, word};
+use std::io;
+use std::io::Read;
 use word::{Port, Queue};
 
 // The control block given, and an array of so many pages.
-pub(crate) fn begun() -> State {
-    with_domain(sized(true, small()), [7; 16])
+pub(crate) fn begun(input: &mut impl Read) -> io::Result<State> {
+    Ok(with_domain(sized(true, small(input)?), [7; 16]))
 }
 
 fn with_pages(domain: Domain, pages: u32) -> Domain {
@@ -58,16 +60,16 @@ fn stage(name: u64) -> Stage {
 }
 
 // A call under way: its owner, stage, port, queue, word, tries and count.
-fn call() -> Call {
-    Call {
-        owner: owner(name()),
-        stage: stage(name()),
-        port: Port(small()),
-        queue: Queue(small()),
-        word: word(),
-        tries: small(),
-        count: small(),
-    }
+fn call(input: &mut impl Read) -> io::Result<Call> {
+    Ok(Call {
+        owner: owner(name(input)?),
+        stage: stage(name(input)?),
+        port: Port(small(input)?),
+        queue: Queue(small(input)?),
+        word: word(input)?,
+        tries: small(input)?,
+        count: small(input)?,
+    })
 }
 
 fn with_entry(ledger: [u16; 16], port: u32, entry: u32) -> [u16; 16] {
@@ -79,14 +81,15 @@ fn with_entry(ledger: [u16; 16], port: u32, entry: u32) -> [u16; 16] {
 }
 
 // The state with an entry, a tail, the pages or the call under way set.
-pub(crate) fn set(s: State, name: u64) -> State {
+pub(crate) fn set(input: &mut impl Read, s: State, name: u64) -> io::Result<State> {
     let domain = s.domain;
     let ledger = s.ledger;
-    match place(name, b"entry tail pages call") {
-        1 => with_domain(domain, with_entry(ledger, small(), word())),
-        2 => with_domain(with_tail(domain, small(), small()), ledger),
-        3 => with_domain(with_pages(domain, small()), ledger),
-        4 => with_domain(records::with_call(domain, call()), ledger),
+    let changed = match place(name, b"entry tail pages call") {
+        1 => with_domain(domain, with_entry(ledger, small(input)?, word(input)?)),
+        2 => with_domain(with_tail(domain, small(input)?, small(input)?), ledger),
+        3 => with_domain(with_pages(domain, small(input)?), ledger),
+        4 => with_domain(records::with_call(domain, call(input)?), ledger),
         _ => state::unknown(),
-    }
+    };
+    Ok(changed)
 }

@@ -3,6 +3,8 @@
 use calls::types::{Answer, Domain, Next, Outcome};
 use calls::{hypervisor, records};
 use script::{number, place, small, word};
+use std::io;
+use std::io::Read;
 use word::{Port, Priority};
 
 #[derive(Clone, Copy)]
@@ -52,25 +54,43 @@ pub(crate) fn is_call(name: u64) -> bool {
     place(name, b"reply init expand bind close raise unmask priority") != 0
 }
 
-fn port_call(domain: Domain, ledger: &mut [u16], name: u64) -> Outcome {
-    let port = Port(small());
-    match place(name, b"bind close raise unmask") {
+fn port_call(
+    input: &mut impl Read,
+    domain: Domain,
+    ledger: &mut [u16],
+    name: u64,
+) -> io::Result<Outcome> {
+    let port = Port(small(input)?);
+    let outcome = match place(name, b"bind close raise unmask") {
         1 => hypervisor::bind(domain, ledger, port),
         2 => hypervisor::close(domain, ledger, port),
         3 => hypervisor::raise(domain, ledger, port),
         4 => hypervisor::unmask(domain, ledger, port),
-        _ => hypervisor::set_priority(domain, ledger, port, Priority(small())),
-    }
+        _ => hypervisor::set_priority(domain, ledger, port, Priority(small(input)?)),
+    };
+    Ok(outcome)
 }
 
 // The call or reply that the script gives.
-pub(crate) fn call(domain: Domain, ledger: &mut [u16], name: u64) -> Outcome {
-    match place(name, b"reply init expand") {
-        1 => hypervisor::reply(domain, ledger, word()),
-        2 => hypervisor::init_control(domain, small(), number(), number(), small()),
-        3 => hypervisor::expand_array(domain, number(), number()),
-        _ => port_call(domain, ledger, name),
-    }
+pub(crate) fn call(
+    input: &mut impl Read,
+    domain: Domain,
+    ledger: &mut [u16],
+    name: u64,
+) -> io::Result<Outcome> {
+    let outcome = match place(name, b"reply init expand") {
+        1 => hypervisor::reply(domain, ledger, word(input)?),
+        2 => hypervisor::init_control(
+            domain,
+            small(input)?,
+            number(input)?,
+            number(input)?,
+            small(input)?,
+        ),
+        3 => hypervisor::expand_array(domain, number(input)?, number(input)?),
+        _ => port_call(input, domain, ledger, name)?,
+    };
+    Ok(outcome)
 }
 
 fn after(outcome: Outcome, ledger: [u16; 16]) -> State {
@@ -84,21 +104,21 @@ fn after(outcome: Outcome, ledger: [u16; 16]) -> State {
     }
 }
 
-pub(crate) fn called(s: State, name: u64) -> State {
+pub(crate) fn called(input: &mut impl Read, s: State, name: u64) -> io::Result<State> {
     if !is_call(name) {
-        return unknown();
+        return Ok(unknown());
     }
     let domain = s.domain;
     let mut ledger = s.ledger;
-    let outcome = call(domain, &mut ledger, name);
-    after(outcome, ledger)
+    let outcome = call(input, domain, &mut ledger, name)?;
+    Ok(after(outcome, ledger))
 }
 
 // A reply with a ledger of one entry.
-pub(crate) fn reply_short(s: State) -> State {
+pub(crate) fn reply_short(input: &mut impl Read, s: State) -> io::Result<State> {
     let domain = s.domain;
     let ledger = s.ledger;
     let mut short = [7u16; 1];
-    let outcome = hypervisor::reply(domain, &mut short, word());
-    after(outcome, ledger)
+    let outcome = hypervisor::reply(domain, &mut short, word(input)?);
+    Ok(after(outcome, ledger))
 }

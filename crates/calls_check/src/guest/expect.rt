@@ -5,6 +5,8 @@ use crate::numbers::{Numbers, comes_to};
 use calls::records;
 use calls::types::{ClearCall, ClearStage, Guest, GuestCall, GuestOutcome, GuestStage, Next};
 use script::{place, small, word};
+use std::io;
+use std::io::Read;
 use word::Queue;
 
 fn stage_number(stage: GuestStage) -> u32 {
@@ -87,15 +89,16 @@ fn head_is(guest: Guest, queue: u32, head: u32) -> bool {
     records::at_queue(heads, Queue(queue)) == head
 }
 
-fn record_holds(guest: Guest, kept: Guest, name: u64) -> bool {
-    match place(name, b"head heads local words same") {
-        1 => head_is(guest, small(), small()),
+fn record_holds(input: &mut impl Read, guest: Guest, kept: Guest, name: u64) -> io::Result<bool> {
+    let holds = match place(name, b"head heads local words same") {
+        1 => head_is(guest, small(input)?, small(input)?),
         2 => same_heads(guest, kept),
-        3 => guest.ready == word(),
-        4 => guest.words == small(),
+        3 => guest.ready == word(input)?,
+        4 => guest.words == small(input)?,
         5 => same(guest, kept),
         _ => false,
-    }
+    };
+    Ok(holds)
 }
 
 // Whether an access is named, and is what the record waits for.
@@ -104,22 +107,28 @@ fn names(guest: Guest, next: Next, access: Numbers) -> bool {
 }
 
 // Whether a call was refused: nothing changed, and nothing is counted.
-fn refused(guest: Guest, kept: Guest, next: Next) -> bool {
+fn refused(input: &mut impl Read, guest: Guest, kept: Guest, next: Next) -> io::Result<bool> {
     let kept_words = guest.words == kept.words;
-    comes_to(next, numbers::refusal()) && kept_words && same(guest, kept)
+    Ok(comes_to(next, numbers::refusal(input)?) && kept_words && same(guest, kept))
 }
 
 // Whether what the script expects holds: `gave` ends a service, `cleared` a clear_mask, `told` may end neither.
-pub(crate) fn holds(now: GuestOutcome, kept: GuestOutcome, name: u64) -> bool {
+pub(crate) fn holds(
+    input: &mut impl Read,
+    now: GuestOutcome,
+    kept: GuestOutcome,
+    name: u64,
+) -> io::Result<bool> {
     let guest = now.guest;
     let next = now.next;
     let before = kept.guest;
-    match place(name, b"names gave cleared told refused") {
-        1 => names(guest, next, numbers::access()),
-        2 => comes_to(next, numbers::answer()) && is_idle(guest),
-        3 => comes_to(next, numbers::plain_answer()) && is_cleared(guest),
-        4 => comes_to(next, numbers::answer()),
-        5 => refused(guest, before, next),
-        _ => record_holds(guest, before, name),
-    }
+    let holds = match place(name, b"names gave cleared told refused") {
+        1 => names(guest, next, numbers::access(input)?),
+        2 => comes_to(next, numbers::answer(input)?) && is_idle(guest),
+        3 => comes_to(next, numbers::plain_answer(input)?) && is_cleared(guest),
+        4 => comes_to(next, numbers::answer(input)?),
+        5 => refused(input, guest, before, next)?,
+        _ => record_holds(input, guest, before, name)?,
+    };
+    Ok(holds)
 }
