@@ -1,5 +1,4 @@
 -- `replay::player::feed::feed_on` meets its contract. Assumes nothing.
-use native.Mathlib.Nat.{lt_of_le_of_lt}
 use Rattle.replay.proofs.FeedLaws.{over_stays, line_counts, line_one, line_there, line_inside, next_line_lem}
 use Rattle.replay.specs.Player.{fed}
 use lib.ListN.{drop, drop_of_length-le}
@@ -18,7 +17,7 @@ pub feed_line-now-requires : goal.feed_line-now-requires
 feed_line-now-requires c = (omega (arith, c.loop-at.invariant.1, c.requires.0), omega (arith, c.loop-at.invariant.3, c.requires.1), omega (arith, c.loop-at.invariant.7, c.requires.2), omega (arith, c.loop-at.invariant.6, c.requires.3), c.loop-at.invariant.8, line_one c.args.text.now c.loop-at.at _ c.loop-at-test.true c.line_length-len.ensures)
 
 pub overflow_add-at : goal.overflow_add-at
-overflow_add-at c = record { fits = lt_of_le_of_lt (line_inside c.args.text.now c.loop-at.at _ c.loop-at-test.true c.line_length-len.ensures) c.well_formed.1.1.1.1.1.1.1.1.0.0 }
+overflow_add-at c = omega (arith, line_inside c.args.text.now c.loop-at.at _ c.loop-at-test.true c.line_length-len.ensures)
 
 pub loop-at-smaller : goal.loop-at-smaller
 loop-at-smaller c = omega (arith, line_there c.args.text.now c.loop-at.at _ c.loop-at-test.true c.line_length-len.ensures, line_inside c.args.text.now c.loop-at.at _ c.loop-at-test.true c.line_length-len.ensures)
