@@ -3,10 +3,10 @@ use crate::state::State;
 use crate::{expect, guest, ledger, record, state};
 use script::{is, place};
 use std::io;
-use std::io::Read;
+use std::io::BufRead;
 
 // The state after a command.
-fn turn(input: &mut impl Read, now: State, kept: State, name: u64) -> io::Result<State> {
+fn turn(input: &mut impl BufRead, now: State, kept: State, name: u64) -> io::Result<State> {
     match place(name, b"back short set begun fresh") {
         1 => Ok(kept),
         2 => state::reply_short(input, now),
@@ -21,7 +21,7 @@ fn turn(input: &mut impl Read, now: State, kept: State, name: u64) -> io::Result
 }
 
 // Whether what is expected of a state holds, or a part of the test on a guest or on a long ledger does.
-fn holds(input: &mut impl Read, now: State, kept: State, kind: u32) -> io::Result<bool> {
+fn holds(input: &mut impl BufRead, now: State, kept: State, kind: u32) -> io::Result<bool> {
     match kind {
         1 => {
             let name = script::name(input)?;
@@ -33,7 +33,7 @@ fn holds(input: &mut impl Read, now: State, kept: State, kind: u32) -> io::Resul
 }
 
 // Whether all names up to `end` are known, and all that is expected holds.
-pub(crate) fn test(input: &mut impl Read) -> io::Result<bool> {
+pub(crate) fn test(input: &mut impl BufRead) -> io::Result<bool> {
     let mut now = state::fresh();
     let mut kept = state::fresh();
     let mut ok = true;

@@ -8,7 +8,7 @@ use calls::records;
 use calls::types::{Domain, Masking, Next};
 use script::{place, small, word};
 use std::io;
-use std::io::Read;
+use std::io::BufRead;
 use word::{Port, Queue};
 
 fn is_free(domain: Domain) -> bool {
@@ -46,7 +46,7 @@ fn mask_made(port: u32, words: u32) -> bool {
     }
 }
 
-fn mask_refused(input: &mut impl Read, port: u32, words: u32) -> io::Result<bool> {
+fn mask_refused(input: &mut impl BufRead, port: u32, words: u32) -> io::Result<bool> {
     match calls::guest::mask(Port(port), words) {
         Masking::Made(_, _, _) => Ok(false),
         Masking::Refused(answer, count) => {
@@ -56,7 +56,7 @@ fn mask_refused(input: &mut impl Read, port: u32, words: u32) -> io::Result<bool
 }
 
 fn record_holds(
-    input: &mut impl Read,
+    input: &mut impl BufRead,
     domain: Domain,
     ledger: [u16; 16],
     name: u64,
@@ -81,7 +81,7 @@ fn names(domain: Domain, next: Next, access: Numbers) -> bool {
     comes_to(next, access) && comes_to(due(domain), access)
 }
 
-fn next_holds(input: &mut impl Read, s: State, name: u64) -> io::Result<bool> {
+fn next_holds(input: &mut impl BufRead, s: State, name: u64) -> io::Result<bool> {
     let domain = s.domain;
     let next = s.next;
     let ledger = s.ledger;
@@ -96,13 +96,18 @@ fn next_holds(input: &mut impl Read, s: State, name: u64) -> io::Result<bool> {
 }
 
 // Whether a call was refused: nothing changed, and nothing is counted.
-fn refused(input: &mut impl Read, now: State, kept: State) -> io::Result<bool> {
+fn refused(input: &mut impl BufRead, now: State, kept: State) -> io::Result<bool> {
     let next = now.next;
     Ok(comes_to(next, numbers::refusal(input)?) && same(now, kept))
 }
 
 // Whether what the script expects of a state holds; `same`, `changed` and `refused` compare it with the one kept.
-pub(crate) fn holds(input: &mut impl Read, now: State, kept: State, name: u64) -> io::Result<bool> {
+pub(crate) fn holds(
+    input: &mut impl BufRead,
+    now: State,
+    kept: State,
+    name: u64,
+) -> io::Result<bool> {
     match place(name, b"refused same changed") {
         1 => refused(input, now, kept),
         2 => Ok(same(now, kept)),

@@ -6,7 +6,7 @@ use calls::types::{Answer, ClearCall, ClearStage, Guest, GuestOutcome, GuestStag
 use calls::{clear_mask, records};
 use script::{is, name, place, small, word};
 use std::io;
-use std::io::Read;
+use std::io::BufRead;
 use word::{Port, Queue};
 
 fn made(guest: Guest) -> GuestOutcome {
@@ -17,7 +17,7 @@ fn made(guest: Guest) -> GuestOutcome {
 }
 
 // A guest with her words, local ready bits and one head, which the script gives.
-fn fresh(input: &mut impl Read) -> io::Result<Guest> {
+fn fresh(input: &mut impl BufRead) -> io::Result<Guest> {
     let words = small(input)?;
     let ready = word(input)?;
     let heads = records::with_queue([0; 16], Queue(small(input)?), small(input)?);
@@ -33,7 +33,7 @@ fn fresh(input: &mut impl Read) -> io::Result<Guest> {
 }
 
 // A service at G2 is put under way: port, queue and count.
-fn at_g2(input: &mut impl Read, guest: Guest) -> io::Result<Guest> {
+fn at_g2(input: &mut impl BufRead, guest: Guest) -> io::Result<Guest> {
     let heads = guest.heads;
     let clear = guest.clear;
     let call = records::guest_call_at(
@@ -60,7 +60,7 @@ fn clear_stage(name: u64) -> ClearStage {
 }
 
 // A clear_mask is put under way: its stage, port, word and count.
-fn clearing(input: &mut impl Read) -> io::Result<ClearCall> {
+fn clearing(input: &mut impl BufRead) -> io::Result<ClearCall> {
     let stage = clear_stage(name(input)?);
     Ok(records::clear_at(stage, Port(small(input)?), word(input)?, small(input)?))
 }
@@ -74,7 +74,7 @@ fn command(name: u64) -> u32 {
 }
 
 fn turn(
-    input: &mut impl Read,
+    input: &mut impl BufRead,
     now: GuestOutcome,
     kept: GuestOutcome,
     command: u32,
@@ -94,7 +94,7 @@ fn turn(
 }
 
 // Whether all names up to `done` are known, and all that is expected holds.
-pub(crate) fn part(input: &mut impl Read) -> io::Result<bool> {
+pub(crate) fn part(input: &mut impl BufRead) -> io::Result<bool> {
     let mut now = made(fresh(input)?);
     let mut kept = now;
     let mut ok = true;

@@ -6,7 +6,7 @@ use calls::records::Lookup;
 use calls::types::{Answer, Domain, Next};
 use script::{is, place, small, word};
 use std::io;
-use std::io::Read;
+use std::io::BufRead;
 use word::Port;
 
 // A domain, what the last call or reply came to, and whether all that was expected held.
@@ -33,7 +33,7 @@ fn entry_is(ledger: &[u16], port: u32, entry: u32) -> bool {
     }
 }
 
-fn holds(input: &mut impl Read, next: Next, ledger: &[u16], name: u64) -> io::Result<bool> {
+fn holds(input: &mut impl BufRead, next: Next, ledger: &[u16], name: u64) -> io::Result<bool> {
     let holds = match place(name, b"names gave entry") {
         1 => comes_to(next, numbers::access(input)?),
         2 => comes_to(next, numbers::answer(input)?),
@@ -53,7 +53,7 @@ fn judged(h: Held, ok: bool) -> Held {
     }
 }
 
-fn called(input: &mut impl Read, h: Held, ledger: &mut [u16], name: u64) -> io::Result<Held> {
+fn called(input: &mut impl BufRead, h: Held, ledger: &mut [u16], name: u64) -> io::Result<Held> {
     let domain = h.domain;
     let outcome = call(input, domain, ledger, name)?;
     let after = outcome.domain;
@@ -65,7 +65,7 @@ fn called(input: &mut impl Read, h: Held, ledger: &mut [u16], name: u64) -> io::
     })
 }
 
-fn turn(input: &mut impl Read, h: Held, ledger: &mut [u16], name: u64) -> io::Result<Held> {
+fn turn(input: &mut impl BufRead, h: Held, ledger: &mut [u16], name: u64) -> io::Result<Held> {
     let next = h.next;
     match place(name, b"> begun") {
         1 => {
@@ -83,7 +83,7 @@ fn turn(input: &mut impl Read, h: Held, ledger: &mut [u16], name: u64) -> io::Re
 }
 
 // Whether all names up to `done` are known, and all that is expected holds.
-fn run(input: &mut impl Read, ledger: &mut [u16]) -> io::Result<bool> {
+fn run(input: &mut impl BufRead, ledger: &mut [u16]) -> io::Result<bool> {
     let mut held = begun(0, true);
     let mut name = script::name(input)?;
     for _ in 0..1000 {
@@ -96,7 +96,7 @@ fn run(input: &mut impl Read, ledger: &mut [u16]) -> io::Result<bool> {
     Ok(held.ok)
 }
 
-fn run_first(input: &mut impl Read, ledger: &mut [u16], length: usize) -> io::Result<bool> {
+fn run_first(input: &mut impl BufRead, ledger: &mut [u16], length: usize) -> io::Result<bool> {
     if length <= ledger.len() {
         return run(input, &mut ledger[..length]);
     }
@@ -104,19 +104,19 @@ fn run_first(input: &mut impl Read, ledger: &mut [u16], length: usize) -> io::Re
 }
 
 // A ledger of so many fresh entries.
-fn with_fresh(input: &mut impl Read, length: usize) -> io::Result<bool> {
+fn with_fresh(input: &mut impl BufRead, length: usize) -> io::Result<bool> {
     let mut ledger = [7u16; 131073];
     run_first(input, &mut ledger, length)
 }
 
 // A ledger of so many bound ports.
-fn with_bound(input: &mut impl Read, length: usize) -> io::Result<bool> {
+fn with_bound(input: &mut impl BufRead, length: usize) -> io::Result<bool> {
     let mut ledger = [0x0107u16; 131073];
     run_first(input, &mut ledger, length)
 }
 
 // The script gives the ledger's entries, fresh or bound, and their number.
-pub(crate) fn part(input: &mut impl Read) -> io::Result<bool> {
+pub(crate) fn part(input: &mut impl BufRead) -> io::Result<bool> {
     match place(script::name(input)?, b"fresh bound") {
         1 => {
             let length = small(input)? as usize;

@@ -14,9 +14,9 @@ mod state;
 
 use script::place;
 use std::io;
-use std::io::{BufReader, BufWriter, Read, Write};
+use std::io::{BufRead, Write};
 
-fn test(input: &mut impl Read, out: &mut impl Write) -> io::Result<()> {
+fn test(input: &mut impl BufRead, out: &mut impl Write) -> io::Result<()> {
     script::line(input, out, true)?;
     if domain::test(input)? {
         out.write_all(b" ok\n")
@@ -30,7 +30,7 @@ fn total(out: &mut impl Write, tests: u32) -> io::Result<()> {
 }
 
 // The script's next test or remark: 1, 2, or 0 where there is none.
-fn next(input: &mut impl Read, out: &mut impl Write) -> io::Result<u32> {
+fn next(input: &mut impl BufRead, out: &mut impl Write) -> io::Result<u32> {
     let kind = place(script::name(input)?, b"test #");
     match kind {
         1 => test(input, out)?,
@@ -40,7 +40,7 @@ fn next(input: &mut impl Read, out: &mut impl Write) -> io::Result<u32> {
     Ok(kind)
 }
 
-fn run(input: &mut impl Read, out: &mut impl Write) -> io::Result<()> {
+fn run(input: &mut impl BufRead, out: &mut impl Write) -> io::Result<()> {
     let mut tests = 0;
     let mut kind = next(input, out)?;
     for _ in 0..1000 {
@@ -56,8 +56,5 @@ fn run(input: &mut impl Read, out: &mut impl Write) -> io::Result<()> {
 }
 
 fn main(rt: HostRuntime) -> io::Result<()> {
-    let mut input = BufReader::new(rt.alloc(), rt.reader())?;
-    let mut out = BufWriter::new(rt.alloc(), io::writer(&rt))?;
-    run(&mut input, &mut out)?;
-    out.flush()
+    run(&mut rt.reader(), &mut io::writer(&rt))
 }

@@ -2,7 +2,7 @@
 use calls::types::{Access, Answer, Next, Place};
 use script::{name, place, small, word};
 use std::io;
-use std::io::Read;
+use std::io::BufRead;
 
 // An access: its kind, its place's kind and index, its old word and operand. An answer: its number, value and count.
 #[derive(Clone, Copy)]
@@ -44,7 +44,7 @@ fn of_access(access: Access) -> Numbers {
 }
 
 // The access that the script gives.
-pub(crate) fn access(input: &mut impl Read) -> io::Result<Numbers> {
+pub(crate) fn access(input: &mut impl BufRead) -> io::Result<Numbers> {
     let kind = place(name(input)?, b"read store or and swap cas");
     let spot = place(name(input)?, b"word ready head");
     Ok(with_place(kind, spot, small(input)?, word(input)?, word(input)?))
@@ -74,12 +74,12 @@ pub(crate) fn comes_to(next: Next, expected: Numbers) -> bool {
 }
 
 // The answer that the script gives: number, value and count.
-pub(crate) fn answer(input: &mut impl Read) -> io::Result<Numbers> {
+pub(crate) fn answer(input: &mut impl BufRead) -> io::Result<Numbers> {
     Ok(given(small(input)?, small(input)?, small(input)?))
 }
 
 // An answer without a value: number and count.
-pub(crate) fn plain_answer(input: &mut impl Read) -> io::Result<Numbers> {
+pub(crate) fn plain_answer(input: &mut impl BufRead) -> io::Result<Numbers> {
     Ok(given(small(input)?, 0, small(input)?))
 }
 
@@ -89,6 +89,6 @@ pub(crate) fn mask_of(port: u32) -> Numbers {
 }
 
 // A refusal: its number; nothing is counted.
-pub(crate) fn refusal(input: &mut impl Read) -> io::Result<Numbers> {
+pub(crate) fn refusal(input: &mut impl BufRead) -> io::Result<Numbers> {
     Ok(given(small(input)?, 0, 0))
 }

@@ -5,11 +5,11 @@ use calls::records;
 use calls::types::{Call, Domain, Owner, Stage};
 use script::{name, place, small, word};
 use std::io;
-use std::io::Read;
+use std::io::BufRead;
 use word::{Port, Queue};
 
 // The control block given, and an array of so many pages.
-pub(crate) fn begun(input: &mut impl Read) -> io::Result<State> {
+pub(crate) fn begun(input: &mut impl BufRead) -> io::Result<State> {
     Ok(with_domain(sized(true, small(input)?), [7; 16]))
 }
 
@@ -60,7 +60,7 @@ fn stage(name: u64) -> Stage {
 }
 
 // A call under way: its owner, stage, port, queue, word, tries and count.
-fn call(input: &mut impl Read) -> io::Result<Call> {
+fn call(input: &mut impl BufRead) -> io::Result<Call> {
     Ok(Call {
         owner: owner(name(input)?),
         stage: stage(name(input)?),
@@ -81,7 +81,7 @@ fn with_entry(ledger: [u16; 16], port: u32, entry: u32) -> [u16; 16] {
 }
 
 // The state with an entry, a tail, the pages or the call under way set.
-pub(crate) fn set(input: &mut impl Read, s: State, name: u64) -> io::Result<State> {
+pub(crate) fn set(input: &mut impl BufRead, s: State, name: u64) -> io::Result<State> {
     let domain = s.domain;
     let ledger = s.ledger;
     let changed = match place(name, b"entry tail pages call") {

@@ -4,7 +4,7 @@ use calls::types::{Answer, Domain, Next, Outcome};
 use calls::{hypervisor, records};
 use script::{number, place, small, word};
 use std::io;
-use std::io::Read;
+use std::io::BufRead;
 use word::{Port, Priority};
 
 #[derive(Clone, Copy)]
@@ -55,7 +55,7 @@ pub(crate) fn is_call(name: u64) -> bool {
 }
 
 fn port_call(
-    input: &mut impl Read,
+    input: &mut impl BufRead,
     domain: Domain,
     ledger: &mut [u16],
     name: u64,
@@ -73,7 +73,7 @@ fn port_call(
 
 // The call or reply that the script gives.
 pub(crate) fn call(
-    input: &mut impl Read,
+    input: &mut impl BufRead,
     domain: Domain,
     ledger: &mut [u16],
     name: u64,
@@ -104,7 +104,7 @@ fn after(outcome: Outcome, ledger: [u16; 16]) -> State {
     }
 }
 
-pub(crate) fn called(input: &mut impl Read, s: State, name: u64) -> io::Result<State> {
+pub(crate) fn called(input: &mut impl BufRead, s: State, name: u64) -> io::Result<State> {
     if !is_call(name) {
         return Ok(unknown());
     }
@@ -115,7 +115,7 @@ pub(crate) fn called(input: &mut impl Read, s: State, name: u64) -> io::Result<S
 }
 
 // A reply with a ledger of one entry.
-pub(crate) fn reply_short(input: &mut impl Read, s: State) -> io::Result<State> {
+pub(crate) fn reply_short(input: &mut impl BufRead, s: State) -> io::Result<State> {
     let domain = s.domain;
     let ledger = s.ledger;
     let mut short = [7u16; 1];

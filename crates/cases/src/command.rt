@@ -2,6 +2,8 @@
 // they start it only. A side is X or G, as in the log.
 use machine::types::{GuestStart, Side, Start, Step};
 use script::{is, name, number, place, small};
+use std::io;
+use std::io::BufRead;
 use word::{Port, Priority, Queue};
 
 // How a step is made: with no line in the log; with all further accesses of a side's call, up to an answer.
@@ -66,48 +68,64 @@ fn of_hypervisor(start: Start) -> Call {
     Call::Start(Step::Hypervisor(start), Side::Hypervisor)
 }
 
-fn port_call(name: u64) -> Call {
+fn port_call(input: &mut impl BufRead, name: u64) -> io::Result<Call> {
     let place = place(name, b"bind close raise unmask priority");
     if place == 0 {
-        return Call::Other;
+        return Ok(Call::Other);
     }
-    let port = Port(small());
-    match place {
+    let port = Port(small(input)?);
+    let call = match place {
         1 => of_hypervisor(Start::Bind(port)),
         2 => of_hypervisor(Start::Close(port)),
         3 => of_hypervisor(Start::Raise(port)),
         4 => of_hypervisor(Start::Unmask(port)),
-        _ => of_hypervisor(Start::SetPriority(port, Priority(small()))),
-    }
+        _ => of_hypervisor(Start::SetPriority(port, Priority(small(input)?))),
+    };
+    Ok(call)
 }
 
 fn of_guest(start: GuestStart) -> Call {
     Call::Start(Step::Guest(start), Side::Guest)
 }
 
-fn any_call(name: u64) -> Call {
-    match place(name, b"init expand service clear_mask") {
-        1 => of_hypervisor(Start::InitControl(small(), number(), number(), small())),
-        2 => of_hypervisor(Start::ExpandArray(number(), number())),
+fn any_call(input: &mut impl BufRead, name: u64) -> io::Result<Call> {
+    let call = match place(name, b"init expand service clear_mask") {
+        1 => of_hypervisor(Start::InitControl(
+            small(input)?,
+            number(input)?,
+            number(input)?,
+            small(input)?,
+        )),
+        2 => of_hypervisor(Start::ExpandArray(number(input)?, number(input)?)),
         3 => of_guest(GuestStart::Service),
-        4 => of_guest(GuestStart::ClearMask(Port(small()))),
-        _ => port_call(name),
-    }
+        4 => of_guest(GuestStart::ClearMask(Port(small(input)?))),
+        _ => port_call(input, name)?,
+    };
+    Ok(call)
 }
 
-fn side() -> Side {
-    if is(name(), b"G") {
-        return Side::Guest;
+fn side(input: &mut impl BufRead) -> io::Result<Side> {
+    if is(name(input)?, b"G") {
+        return Ok(Side::Guest);
     }
-    Side::Hypervisor
+    Ok(Side::Hypervisor)
 }
 
-fn put_call(name: u64) -> Put {
-    match place(name, b"raising serving") {
-        1 => Put::Raise(Port(small()), Queue(small()), script::word()),
-        2 => Put::Service(Port(small()), Queue(small()), script::word()),
+fn put_call(input: &mut impl BufRead, name: u64) -> io::Result<Put> {
+    let put = match place(name, b"raising serving") {
+        1 => Put::Raise(
+            Port(small(input)?),
+            Queue(small(input)?),
+            script::word(input)?,
+        ),
+        2 => Put::Service(
+            Port(small(input)?),
+            Queue(small(input)?),
+            script::word(input)?,
+        ),
         _ => Put::End,
-    }
+    };
+    Ok(put)
 }
 
 fn silent(step: Step) -> Command {
@@ -120,33 +138,35 @@ fn short() -> Command {
     Command::Short(planned(step, false, false, Side::Hypervisor))
 }
 
-fn other(name: u64) -> Command {
-    match place(name, b"mask tell perform finish reply short") {
-        1 => logged(Step::Guest(GuestStart::Mask(Port(small())))),
-        2 => silent(Step::Guest(GuestStart::Tell(small()))),
-        3 => logged(Step::Perform(side())),
-        4 => Command::Take(go_on(side())),
-        5 => logged(Step::HandBack(side(), script::word())),
+fn other(input: &mut impl BufRead, name: u64) -> io::Result<Command> {
+    let command = match place(name, b"mask tell perform finish reply short") {
+        1 => logged(Step::Guest(GuestStart::Mask(Port(small(input)?)))),
+        2 => silent(Step::Guest(GuestStart::Tell(small(input)?))),
+        3 => logged(Step::Perform(side(input)?)),
+        4 => Command::Take(go_on(side(input)?)),
+        5 => logged(Step::HandBack(side(input)?, script::word(input)?)),
         6 => short(),
-        _ => Command::Put(put_call(name)),
-    }
+        _ => Command::Put(put_call(input, name)?),
+    };
+    Ok(command)
 }
 
-fn started() -> Command {
-    match any_call(name()) {
-        Call::Start(step, _) => logged(step),
-        Call::Other => Command::Put(Put::End),
+fn started(input: &mut impl BufRead) -> io::Result<Command> {
+    let name = name(input)?;
+    match any_call(input, name)? {
+        Call::Start(step, _) => Ok(logged(step)),
+        Call::Other => Ok(Command::Put(Put::End)),
     }
 }
 
 // The script's next command.
-pub(crate) fn read() -> Command {
-    let name = name();
+pub(crate) fn read(input: &mut impl BufRead) -> io::Result<Command> {
+    let name = name(input)?;
     if is(name, b"start") {
-        return started();
+        return started(input);
     }
-    match any_call(name) {
-        Call::Start(step, side) => Command::Take(planned(step, false, true, side)),
-        Call::Other => other(name),
+    match any_call(input, name)? {
+        Call::Start(step, side) => Ok(Command::Take(planned(step, false, true, side))),
+        Call::Other => other(input, name),
     }
 }

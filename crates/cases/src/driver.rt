@@ -9,21 +9,37 @@ use crate::driver::output::{Tally, print_line, print_reply, print_tally, with_an
 use crate::driver::run::{Run, after, ended, fresh, is_busy, raising, serving};
 use access_log::line::Line;
 use machine::types::Sides;
+use std::io;
+use std::io::{BufRead, Write};
 
-fn take(sides: Sides, ledger: &mut [u16], words: &mut [u32], block: &mut [u32], plan: Plan) -> Run {
+fn take(
+    out: &mut impl Write,
+    sides: Sides,
+    ledger: &mut [u16],
+    words: &mut [u32],
+    block: &mut [u32],
+    plan: Plan,
+) -> io::Result<Run> {
     let step = plan.step;
     let manner = plan.manner;
-    print_reply(sides, step);
+    print_reply(out, sides, step)?;
     after(
+        out,
         machine::step::advance(sides, ledger, words, block, step),
         manner,
     )
 }
 
 // A step with a ledger of one entry.
-fn take_short(sides: Sides, words: &mut [u32], block: &mut [u32], plan: Plan) -> Run {
+fn take_short(
+    out: &mut impl Write,
+    sides: Sides,
+    words: &mut [u32],
+    block: &mut [u32],
+    plan: Plan,
+) -> io::Result<Run> {
     let mut one = [7u16; 1];
-    take(sides, &mut one, words, block, plan)
+    take(out, sides, &mut one, words, block, plan)
 }
 
 fn without_step(sides: Sides, put: Put) -> Run {
@@ -35,45 +51,64 @@ fn without_step(sides: Sides, put: Put) -> Run {
 }
 
 // The access that a whole call waits for, or else the script's next command.
-fn next(sides: Sides, manner: Manner, answered: bool) -> Command {
+fn next(
+    input: &mut impl BufRead,
+    sides: Sides,
+    manner: Manner,
+    answered: bool,
+) -> io::Result<Command> {
     let side = manner.side;
     if manner.whole && !answered && is_busy(sides, side) {
-        return Command::Take(command::go_on(side));
+        return Ok(Command::Take(command::go_on(side)));
     }
-    command::read()
+    command::read(input)
 }
 
-fn turn(run: Run, ledger: &mut [u16], words: &mut [u32], block: &mut [u32]) -> Run {
+fn turn(
+    input: &mut impl BufRead,
+    out: &mut impl Write,
+    run: Run,
+    ledger: &mut [u16],
+    words: &mut [u32],
+    block: &mut [u32],
+) -> io::Result<Run> {
     let sides = run.sides;
     let manner = run.manner;
     let answer = run.answer;
-    match next(sides, manner, answer.given) {
-        Command::Take(plan) => take(sides, ledger, words, block, plan),
-        Command::Short(plan) => take_short(sides, words, block, plan),
-        Command::Put(call) => without_step(sides, call),
+    match next(input, sides, manner, answer.given)? {
+        Command::Take(plan) => take(out, sides, ledger, words, block, plan),
+        Command::Short(plan) => take_short(out, sides, words, block, plan),
+        Command::Put(call) => Ok(without_step(sides, call)),
     }
 }
 
-fn print_head() {
-    script::line(true);
-    io::write_all(1, b"\n");
-    print_line(Line::Header);
+fn print_head(input: &mut impl BufRead, out: &mut impl Write) -> io::Result<()> {
+    script::line(input, out, true)?;
+    out.write_all(b"\n")?;
+    print_line(out, Line::Header)
 }
 
 // A log from its title on, from fresh records.
-pub(crate) fn print_log(ledger: &mut [u16], words: &mut [u32], block: &mut [u32]) {
-    print_head();
+pub(crate) fn print_log(
+    input: &mut impl BufRead,
+    out: &mut impl Write,
+    ledger: &mut [u16],
+    words: &mut [u32],
+    block: &mut [u32],
+) -> io::Result<()> {
+    print_head(input, out)?;
     let mut run = fresh();
     let mut tally = Tally {
         counts: [0; 256],
         answers: 0,
     };
-    let mut turns: u32 = 10000;
-    while turns > 0 && !run.over {
-        run = turn(run, ledger, words, block);
+    for _ in 0..10000 {
+        if run.over {
+            break;
+        }
+        run = turn(input, out, run, ledger, words, block)?;
         let answer = run.answer;
         tally = with_answer(tally, answer);
-        turns -= 1;
     }
-    print_tally(tally);
+    print_tally(out, tally)
 }

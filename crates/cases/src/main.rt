@@ -6,37 +6,45 @@ mod command;
 mod driver;
 
 use script::place;
+use std::io;
+use std::io::{BufRead, Write};
 
-fn log() {
+fn log(input: &mut impl BufRead, out: &mut impl Write) -> io::Result<()> {
     let mut ledger = [7u16; 2048];
     let mut words = [0u32; 2048];
     let mut block = [0u32; 18];
-    driver::print_log(&mut ledger, &mut words, &mut block);
+    driver::print_log(input, out, &mut ledger, &mut words, &mut block)
 }
 
 // A log with a word and an entry for every port.
-fn large_log() {
+fn large_log(input: &mut impl BufRead, out: &mut impl Write) -> io::Result<()> {
     let mut ledger = [7u16; 131072];
     let mut words = [0u32; 131072];
     let mut block = [0u32; 18];
-    driver::print_log(&mut ledger, &mut words, &mut block);
+    driver::print_log(input, out, &mut ledger, &mut words, &mut block)
 }
 
 // The script's next log or remark; whether there was one.
-fn next() -> bool {
-    let place = place(script::name(), b"log large #");
+fn next(input: &mut impl BufRead, out: &mut impl Write) -> io::Result<bool> {
+    let place = place(script::name(input)?, b"log large #");
     match place {
-        1 => log(),
-        2 => large_log(),
-        3 => script::line(false),
+        1 => log(input, out)?,
+        2 => large_log(input, out)?,
+        3 => script::line(input, out, false)?,
         _ => {}
     }
-    place != 0
+    Ok(place != 0)
 }
 
-fn main() {
-    let mut turns: u32 = 1000;
-    while turns > 0 && next() {
-        turns -= 1;
+fn run(input: &mut impl BufRead, out: &mut impl Write) -> io::Result<()> {
+    for _ in 0..1000 {
+        if !next(input, out)? {
+            break;
+        }
     }
+    Ok(())
+}
+
+fn main(rt: HostRuntime) -> io::Result<()> {
+    run(&mut rt.reader(), &mut io::writer(&rt))
 }

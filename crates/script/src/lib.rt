@@ -1,12 +1,11 @@
-// A script that a reader gives, as standard input: words with blanks or line ends between them. No contract can say what is read.
-// A function reads a byte at a time, so its reader is a buffered one.
+// A script on standard input, or from another reader: words with blanks or line ends between them. No contract can say what is read.
 #![tactic(auto)]
 
 ghost use Rattle.std.specs.Prelude.{◌≡◌, ◌==◌};
 ghost use Rattle.script.specs.Names.{with_letter, ends_name, letters_after, place_after, place_of};
 
 use std::io;
-use std::io::{Read, Write};
+use std::io::{BufRead, Write};
 
 // A word: its last eight letters as one number, its name; its digits as a decimal and as a hexadecimal number.
 #[derive(Clone, Copy)]
@@ -17,10 +16,13 @@ struct Scanned {
 }
 
 // The next byte; 0 where the script ends.
-fn next_byte(input: &mut impl Read) -> io::Result<u8> {
-    let mut one = [0u8; 1];
-    input.read(&mut one)?;
-    Ok(one[0])
+fn next_byte(input: &mut impl BufRead) -> io::Result<u8> {
+    let ahead = input.fill_buf()?;
+    let Some(byte) = ahead.first().copied() else {
+        return Ok(0);
+    };
+    input.consume(1);
+    Ok(byte)
 }
 
 fn is_blank(byte: u8) -> bool {
@@ -72,7 +74,7 @@ fn with_byte(token: Scanned, byte: u8) -> Scanned {
 }
 
 // The first byte that is no blank.
-fn first_byte(input: &mut impl Read) -> io::Result<u8> {
+fn first_byte(input: &mut impl BufRead) -> io::Result<u8> {
     let mut byte = next_byte(input)?;
     for _ in 0..65536 {
         if !is_blank(byte) {
@@ -84,7 +86,7 @@ fn first_byte(input: &mut impl Read) -> io::Result<u8> {
 }
 
 // The next word; none of its letters where the script ends.
-fn token(input: &mut impl Read) -> io::Result<Scanned> {
+fn token(input: &mut impl BufRead) -> io::Result<Scanned> {
     let mut byte = first_byte(input)?;
     let mut token = Scanned {
         name: 0,
@@ -101,25 +103,25 @@ fn token(input: &mut impl Read) -> io::Result<Scanned> {
     Ok(token)
 }
 
-pub fn name(input: &mut impl Read) -> io::Result<u64> {
+pub fn name(input: &mut impl BufRead) -> io::Result<u64> {
     let read = token(input)?;
     Ok(read.name)
 }
 
 // A decimal number.
-pub fn number(input: &mut impl Read) -> io::Result<u64> {
+pub fn number(input: &mut impl BufRead) -> io::Result<u64> {
     let read = token(input)?;
     Ok(read.decimal)
 }
 
 // A decimal number modulo 2^32.
-pub fn small(input: &mut impl Read) -> io::Result<u32> {
+pub fn small(input: &mut impl BufRead) -> io::Result<u32> {
     let value = number(input)?;
     Ok(low(value))
 }
 
 // A hexadecimal number modulo 2^32.
-pub fn word(input: &mut impl Read) -> io::Result<u32> {
+pub fn word(input: &mut impl BufRead) -> io::Result<u32> {
     let read = token(input)?;
     Ok(low(read.hex))
 }
@@ -193,7 +195,7 @@ pub fn is(name: u64, text: &[u8]) -> bool
 }
 
 // Copies a byte to the output; whether it ends no line.
-fn copy_byte(input: &mut impl Read, out: &mut impl Write, print: bool) -> io::Result<bool> {
+fn copy_byte(input: &mut impl BufRead, out: &mut impl Write, print: bool) -> io::Result<bool> {
     let byte = next_byte(input)?;
     let inside = byte >= b' ';
     if inside && print {
@@ -203,7 +205,7 @@ fn copy_byte(input: &mut impl Read, out: &mut impl Write, print: bool) -> io::Re
 }
 
 // The rest of a line, printed or not, without its line end.
-pub fn line(input: &mut impl Read, out: &mut impl Write, print: bool) -> io::Result<()> {
+pub fn line(input: &mut impl BufRead, out: &mut impl Write, print: bool) -> io::Result<()> {
     for _ in 0..65536 {
         if !copy_byte(input, out, print)? {
             break;

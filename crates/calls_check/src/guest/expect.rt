@@ -6,7 +6,7 @@ use calls::records;
 use calls::types::{ClearCall, ClearStage, Guest, GuestCall, GuestOutcome, GuestStage, Next};
 use script::{place, small, word};
 use std::io;
-use std::io::Read;
+use std::io::BufRead;
 use word::Queue;
 
 fn stage_number(stage: GuestStage) -> u32 {
@@ -89,7 +89,12 @@ fn head_is(guest: Guest, queue: u32, head: u32) -> bool {
     records::at_queue(heads, Queue(queue)) == head
 }
 
-fn record_holds(input: &mut impl Read, guest: Guest, kept: Guest, name: u64) -> io::Result<bool> {
+fn record_holds(
+    input: &mut impl BufRead,
+    guest: Guest,
+    kept: Guest,
+    name: u64,
+) -> io::Result<bool> {
     let holds = match place(name, b"head heads local words same") {
         1 => head_is(guest, small(input)?, small(input)?),
         2 => same_heads(guest, kept),
@@ -107,14 +112,14 @@ fn names(guest: Guest, next: Next, access: Numbers) -> bool {
 }
 
 // Whether a call was refused: nothing changed, and nothing is counted.
-fn refused(input: &mut impl Read, guest: Guest, kept: Guest, next: Next) -> io::Result<bool> {
+fn refused(input: &mut impl BufRead, guest: Guest, kept: Guest, next: Next) -> io::Result<bool> {
     let kept_words = guest.words == kept.words;
     Ok(comes_to(next, numbers::refusal(input)?) && kept_words && same(guest, kept))
 }
 
 // Whether what the script expects holds: `gave` ends a service, `cleared` a clear_mask, `told` may end neither.
 pub(crate) fn holds(
-    input: &mut impl Read,
+    input: &mut impl BufRead,
     now: GuestOutcome,
     kept: GuestOutcome,
     name: u64,

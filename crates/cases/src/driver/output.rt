@@ -1,51 +1,53 @@
 // Lines of the log and of the counts, written to standard output.
 use crate::driver::run::due;
-use calls::types::{Answer, Next};
 use access_log::event::Logged;
 use access_log::line::{Line, Written};
+use calls::types::{Answer, Next};
 use machine::types::{Event, Side, Sides, Step};
+use std::io;
+use std::io::Write;
 
-fn write_line(out: &mut [u8], line: Line) {
-    let written = access_log::line::write_line(out, line);
+fn write_line(out: &mut impl Write, space: &mut [u8], line: Line) -> io::Result<()> {
+    let written = access_log::line::write_line(space, line);
     let Written::Bytes(len) = written else {
-        return;
+        return Ok(());
     };
-    if len <= 128 {
-        let n = io::count(len as isize, out);
-        io::write_all(1, &out[..n]);
+    match space.get(..len) {
+        None => Ok(()),
+        Some(text) => out.write_all(text),
     }
 }
 
-pub(crate) fn print_line(line: Line) {
+pub(crate) fn print_line(out: &mut impl Write, line: Line) -> io::Result<()> {
     let mut space = [0u8; 128];
-    write_line(&mut space, line);
+    write_line(out, &mut space, line)
 }
 
-fn print_event(event: Event) {
+fn print_event(out: &mut impl Write, event: Event) -> io::Result<()> {
     let logged = access_log::event::line_of(event);
     match logged {
-        Logged::None => {}
-        Logged::Line(line) => print_line(line),
+        Logged::None => Ok(()),
+        Logged::Line(line) => print_line(out, line),
     }
 }
 
-fn print_due(sides: Sides, side: Side, word: u32) {
+fn print_due(out: &mut impl Write, sides: Sides, side: Side, word: u32) -> io::Result<()> {
     match due(sides, side) {
-        Next::Answer(_, _) => {}
+        Next::Answer(_, _) => Ok(()),
         Next::Access(access) => {
             let line = access_log::event::access_line(side, access, word);
-            print_line(line);
+            print_line(out, line)
         }
     }
 }
 
 // The access that a reply alone is for: it is in the log, and is not made.
-pub(crate) fn print_reply(sides: Sides, step: Step) {
+pub(crate) fn print_reply(out: &mut impl Write, sides: Sides, step: Step) -> io::Result<()> {
     match step {
-        Step::Hypervisor(_) => {}
-        Step::Guest(_) => {}
-        Step::Perform(_) => {}
-        Step::HandBack(side, word) => print_due(sides, side, word),
+        Step::Hypervisor(_) => Ok(()),
+        Step::Guest(_) => Ok(()),
+        Step::Perform(_) => Ok(()),
+        Step::HandBack(side, word) => print_due(out, sides, side, word),
     }
 }
 
@@ -87,22 +89,26 @@ fn answer_of(event: Event) -> Answered {
 }
 
 // The lines of a step unless it is silent. An access whose reply 14 refuses is logged with the reply that is accepted.
-pub(crate) fn print(access: Event, answer: Event, silent: bool) -> Answered {
+pub(crate) fn print(
+    out: &mut impl Write,
+    access: Event,
+    answer: Event,
+    silent: bool,
+) -> io::Result<Answered> {
     if silent {
-        return none();
+        return Ok(none());
     }
     let given = answer_of(answer);
     let refused = given.number == 14;
     if !refused {
-        print_event(access);
+        print_event(out, access)?;
     }
-    print_event(answer);
-    given
+    print_event(out, answer)?;
+    Ok(given)
 }
 
-fn print_count(count: u32) {
-    io::write_all(1, b"\t");
-    io::print_decimal(1, count as u64);
+fn print_count(out: &mut impl Write, count: u32) -> io::Result<()> {
+    write!(out, "\t{count}")
 }
 
 // The counts of the answers printed.
@@ -129,14 +135,12 @@ pub(crate) fn with_answer(tally: Tally, answer: Answered) -> Tally {
 }
 
 // The summary line.
-pub(crate) fn print_tally(tally: Tally) {
+pub(crate) fn print_tally(out: &mut impl Write, tally: Tally) -> io::Result<()> {
     let counts = tally.counts;
     let answers = tally.answers;
-    io::write_all(1, b"counts");
-    let mut i = 0;
-    while i < 256 && i < answers {
-        print_count(counts[i]);
-        i += 1;
+    out.write_all(b"counts")?;
+    for count in counts.iter().take(answers) {
+        print_count(out, *count)?;
     }
-    io::write_all(1, b"\n");
+    out.write_all(b"\n")
 }

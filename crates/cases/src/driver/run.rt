@@ -4,6 +4,8 @@ use crate::driver::output::{Answered, none, print};
 use calls::records;
 use calls::types::{Guest, GuestStage, Next, Owner, Stage};
 use machine::types::{Advance, Side, Sides};
+use std::io;
+use std::io::Write;
 use word::{Port, Queue};
 
 // The records, the manner of the last step and the answer that it printed, and whether the log is over.
@@ -16,17 +18,17 @@ pub(crate) struct Run {
 }
 
 // A step that was made, which is printed unless it is silent.
-pub(crate) fn after(advance: Advance, manner: Manner) -> Run {
+pub(crate) fn after(out: &mut impl Write, advance: Advance, manner: Manner) -> io::Result<Run> {
     let sides = advance.sides;
     let access = advance.access;
     let answer = advance.answer;
-    let printed = print(access, answer, manner.silent);
-    Run {
+    let printed = print(out, access, answer, manner.silent)?;
+    Ok(Run {
         sides: sides,
         manner: manner,
         answer: printed,
         over: false,
-    }
+    })
 }
 
 // Records with nothing printed.
