@@ -1,12 +1,10 @@
 -- The accesses of a call of the hypervisor's, which its counts bound, and of a service, which its stage bounds.
 -- Assumes nothing.
-use mathlib.Core.Path.{◌≡◌, refl, sym, ap}
-use mathlib.Core.Logic.{◌≢◌}
+use mathlib.Core.Path.{◌≡◌, refl}
 use mathlib.Core.Bool.{Bool, true, false, not}
 use mathlib.Core.List.{List, [], ◌∷◌, ◌++◌}
-use Prim.Native.Nat.{ℕ, zero, suc, ◌≤◌}
+use Prim.Native.Nat.{ℕ, suc, ◌≤◌}
 use native.Mathlib.Omega.{arith}
-use borrow.Author.Tests.{eqb-true, eqb-false}
 use lib.Dec.{eqb, leb, ltb, lit≤}
 use Rattle.word.specs.declared.Flag.TheVariants.{Pending, Masked}
 use Rattle.word.specs.declared.Port.{Port}
@@ -36,47 +34,19 @@ use Rattle.machine.specs.declared.types.GuestStart.TheVariants.{Service, Mask, C
 use Rattle.machine.specs.declared.types.Step.{Step}
 use Rattle.machine.specs.declared.types.Step.TheVariants as step
 use Rattle.machine.specs.declared.types.Event.{Event}
-use Rattle.machine.specs.declared.types.Event.TheVariants.{Nothing, HypervisorAccess, GuestAccess, ClearAccess, MaskAccess, HypervisorAnswer, GuestAnswer}
+use Rattle.machine.specs.declared.types.Event.TheVariants.{Nothing}
 use Rattle.queue.proofs.Cases.{clash, by_cond}
 use Rattle.interleaving.specs.Fresh.{fresh_world}
 use Rattle.interleaving.specs.Rules.{Allowed, KeepsRules}
-use Rattle.interleaving.specs.Lengths.{is_first, is_first_of_service, counted, call_accesses, service_accesses, LengthsOfCalls}
-use Rattle.interleaving.specs.Counts.{OneMore, Counted, CountsOfEvents}
+use Rattle.interleaving.specs.Lengths.{is_first_of_service, counted, service_accesses, LengthsOfCalls}
+use Rattle.interleaving.specs.Counts.{CountsOfEvents}
 use Rattle.interleaving.proofs.Served.{served, perform_served}
 use Rattle.interleaving.proofs.ClearAccess.{cleared, perform_cleared}
 use Rattle.interleaving.proofs.Steps.{reply_none, perform_none}
 use Rattle.interleaving.proofs.Counts.{counts_of_events}
+use Rattle.interleaving.proofs.FewAccesses.{calls_few, Made, most_of_service, Few}
 
--- ---- the hypervisor's calls: the accesses from the first on are those since the last answer
-
-one_more_lem : (first : Bool) (made latest : ℕ) → OneMore first made → (made ≢ 0 → latest ≡ made) → counted first latest ≡ suc made
-one_more_lem true made latest o same = ap suc (sym (eqb-true made 0 (sym o.start)))
-one_more_lem false made latest o same = ap suc (same (eqb-false made 0 (sym o.start)))
-
-calls_few : (es : List Event) (made latest : ℕ) → Counted made es → latest ≤ 10 → (made ≢ 0 → latest ≡ made) → call_accesses latest es ≤ 10
-calls_few [] made latest c few same = few
-calls_few (Nothing ∷ es) made latest c few same = calls_few es made latest c few same
-calls_few (HypervisorAccess x a seen ∷ es) made latest c few same = rw (one_more_lem (is_first x.stage) made latest c.0 same) (calls_few es (suc made) (suc made) c.1 c.0.bound (λ n. refl))
-calls_few (GuestAccess x a seen ∷ es) made latest c few same = calls_few es made latest c few same
-calls_few (ClearAccess x a seen ∷ es) made latest c few same = calls_few es made latest c few same
-calls_few (MaskAccess a seen ∷ es) made latest c few same = calls_few es made latest c few same
-calls_few (HypervisorAnswer a zero ∷ es) made latest c few same = calls_few es made latest c few same
-calls_few (HypervisorAnswer a (suc count) ∷ es) made latest c few same = calls_few es 0 latest c.1 few (λ n. absurd (n refl))
-calls_few (GuestAnswer a count ∷ es) made latest c few same = calls_few es made latest c few same
-
--- ---- a service: the most accesses that it has made, by its stage
-
-abbrev Made : GuestStage → ℕ → Type 0
-Made guest_stage.None made = Unit {0}
-Made guest_stage.G0 made = Unit {0}
-Made guest_stage.G1 made = made ≤ 1
-Made guest_stage.G2 made = made ≤ 2
-Made guest_stage.G3 made = made ≤ 3
-Made guest_stage.G4 made = made ≤ 4
-
-record Few (made : ℕ) (s : GuestStage) : Type 0 where
-  few : made ≤ 5
-  stage : Made s made
+-- ---- a service
 
 module _ (n : ℕ) (c : GuestCall) (ready words head seen : ℕ) where
   abbrev Moves : ℕ → GuestMove → Type 0
@@ -177,7 +147,7 @@ module _ (n : ℕ) {made : ℕ} (w : World) (s : Few made w.guest.call.stage) wh
   step_served (step.HandBack side.Hypervisor word) a = record { after = made; state = s; counted = answer_quiet made (reply_of n w.domain w.ledger word).outcome.next }
   step_served (step.HandBack side.Guest word) a = rw (reply_none n w word a) (guest_served (guest_answered w.guest NoCall) s.stage)
 
-services_few : (n : ℕ) {made : ℕ} (w : World) (ss : List Step) → Few made w.guest.call.stage → KeepsRules n w ss → service_accesses made (exec_all n w ss).events ≤ 5
+services_few : (n : ℕ) {made : ℕ} (w : World) (ss : List Step) → Few made w.guest.call.stage → KeepsRules n w ss → service_accesses made (exec_all n w ss).events ≤ most_of_service
 unfolding exec_all
 services_few n w [] s a = s.few
 services_few n {made} w (z ∷ ss) s a = let one = step_served n w s z a.0 in rw (one.counted (exec_all n (exec n w z).world ss).events) (services_few n {made = (step_served n w s z a.0).after} (exec n w z).world ss one.state a.1)

@@ -20,9 +20,11 @@ pub mod Steps
 pub mod Theorem
 pub mod Busy
 pub mod Counts
+pub mod FewAccesses
 pub mod Lengths
 pub mod Backlog
 pub mod ServiceTurns
+pub mod NotReady
 pub mod Progress
 pub mod Refused
 pub mod Reach
