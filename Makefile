@@ -4,7 +4,7 @@
 #   BROKEN=name                  the same over a hand-written core with one fault; BROKEN=list names them
 # make qemu                      a small kernel with the kernel's archive, under qemu-system-x86_64; ends by itself
 # make replay LOG=file PAGES=n   plays a recorded log over n lent pages (default 128): all lines agree, or which is the first that differs
-# make test                      the gate: layout, formatting, every proof from nothing, must-fail edits, programs, host tests
+# make test                      the gate: layout, every proof, must-fail edits, programs, host tests
 # make lib                       both archives for C, in target/lib: for user space, and for a hypervisor; and the bitcode of both
 # make install PREFIX=DIR        archives, headers and pkg-config files below DIR (default /usr/local); make uninstall PREFIX=DIR
 # make bench                     what calls cost, whole and inside, against hand-written C and the Rust model; not part of the gate
@@ -24,7 +24,7 @@ LOG = -
 PAGES = 128
 
 archive = target/lib/libevtchn_fifo.a
-library = word calls machine cables log queue claims evtchn_fifo evtchn_cables interleaving exported replay
+library = word calls machine cables access_log queue claims evtchn_fifo evtchn_cables interleaving exported replay evtchn_fifo_c evtchn_cables_c replay_c
 proved = $(shell find $(library:%=crates/%) -name '*.rt' -o -name '*.antt') crates.txt tools/archives tools/archive-kit
 
 help:

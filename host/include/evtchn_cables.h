@@ -87,7 +87,7 @@ extern "C" {
  * The most stack that a call of either archive needs, return addresses with it. The archive for user space may write to the red zone
  * below that.
  */
-#define EVTCHN_CABLES_STACK 48u
+#define EVTCHN_CABLES_STACK 88u
 
 /* ---- what a call comes to ---- */
 

@@ -201,7 +201,7 @@ EVTCHN_FIFO_ASSERT(sizeof(evtchn_fifo_control) == 4 * EVTCHN_FIFO_CONTROL_WORDS)
  * The most stack that a function of this header needs, return addresses with it. The archive for user space may write to the
  * red zone below that.
  */
-#define EVTCHN_FIFO_STACK 24u
+#define EVTCHN_FIFO_STACK 16u
 
 /* ---- what a call or a reply comes to ---- */
 
