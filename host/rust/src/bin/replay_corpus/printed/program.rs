@@ -9,7 +9,7 @@ use std::process::{self, Child, Command, Stdio};
 /// Names the program.
 const VARIABLE: &str = "EVTCHN_REPLAY";
 /// The program, from this package's folder.
-const DEFAULT: &str = "../../target/bin/evtchn_replay";
+const DEFAULT: &str = "../../crates/evtchn_replay/out/evtchn_replay";
 
 /// The program, and a file for logs that it opens by name.
 pub struct Program {
