@@ -4,7 +4,7 @@ ghost use Rattle.access_log.specs.Line.{carries_port};
 ghost use Rattle.access_log.specs.Event.{seen_in, access_line, code_line, answer_line, line_of};
 
 use crate::line::Line;
-use calls::answer::{Code, code_of};
+use calls::answer::Code;
 use calls::types::{Access, Answer};
 use machine::types::{Event, Side};
 use word::Port;
@@ -59,7 +59,7 @@ pub fn code_line(side: Side, code: Code) -> Line
 pub fn answer_line(side: Side, answer: Answer) -> Line
     ensures { result ≡ answer_line side answer }
 {
-    let code = code_of(answer);
+    let code = Code::from(answer);
     code_line(side, code)
 }
 

@@ -1,16 +1,14 @@
 -- T-01's rules: the refusals of lay, cut and send in their order, by each port's own refusals and the table; what each call makes of the
 -- table; and when a close's ledger change falls, which cuts. n is the number of link bits.
 -- Assumes nothing.
-use Rattle.std.specs.Prelude.{ℕ, Bool, cond, not, ◌||◌, List, eqb, leb}
+use Rattle.std.specs.Prelude.{Option, Result, Ok, Err, ℕ, Bool, cond, not, ◌||◌, List, eqb, leb}
 use Rattle.word.specs.Word.{port_at}
 use Rattle.word.specs.Entry.{bound}
-use Rattle.calls.specs.declared.records.Lookup.{Lookup}
 use Rattle.calls.specs.declared.types.Domain.{Domain}
+use Rattle.calls.specs.declared.types.Answer.{Answer}
 use Rattle.calls.specs.declared.types.Next.{Next}
 use Rattle.calls.specs.declared.types.Next.TheVariants as next
 use Rattle.calls.specs.declared.types.Owner.TheVariants as owner
-use Rattle.calls.specs.declared.hypervisor.start.PortAcceptance.{PortAcceptance}
-use Rattle.calls.specs.declared.hypervisor.start.PortAcceptance.TheVariants as port_acceptance
 use Rattle.calls.specs.Answers.{code_of}
 use Rattle.calls.specs.Records.{entry_at}
 use Rattle.calls.specs.Hypervisor.{accept_port}
@@ -18,11 +16,11 @@ use Rattle.cables.specs.Table.{Slot, domain_limit, end, taken, has_space, laid_a
 
 -- ---- a port's own refusals: 10, 3, 14, 4; 0 where it passes. A call under way does not matter, so it is as if none were
 
-abbrev pub entry_refusal : PortAcceptance → ℕ
-entry_refusal (port_acceptance.Refused a) = (code_of a).number
-entry_refusal (port_acceptance.Entry e) = cond (bound e) 0 4
+abbrev pub entry_refusal : Result ℕ Answer → ℕ
+entry_refusal (Err a) = (code_of a).number
+entry_refusal (Ok e) = cond (bound e) 0 4
 
-unfoldable pub refusal_by : ℕ → Bool → ℕ → Lookup → ℕ
+unfoldable pub refusal_by : ℕ → Bool → ℕ → Option ℕ → ℕ
 refusal_by n given p found = entry_refusal (accept_port n owner.None given (port_at p) found)
 
 abbrev pub port_refusal : ℕ → Domain → List ℕ → ℕ → ℕ

@@ -1,6 +1,7 @@
 -- Every start and reply of the hypervisor's side is one of four: refused, settled at once, begun on a port that is accepted,
 -- or a step carried out.
 -- Assumes nothing.
+use Rattle.std.specs.Prelude.{Result, Ok, Err}
 use Prim.Native.Nat.{ℕ, ◌≤◌, ◌<◌}
 use mathlib.Core.Path.{◌≡◌, refl}
 use mathlib.Core.Bool.{Bool, true, false, cond, not}
@@ -21,12 +22,8 @@ use Rattle.calls.specs.declared.types.Owner.TheVariants as owner
 use Rattle.calls.specs.declared.types.Stage.TheVariants.{First}
 use Rattle.calls.specs.declared.types.Domain.{Domain}
 use Rattle.calls.specs.declared.hypervisor.stage.Move.{Move}
-use Rattle.calls.specs.declared.hypervisor.start.Acceptance.{Acceptance}
-use Rattle.calls.specs.declared.hypervisor.start.Acceptance.TheVariants as acceptance
-use Rattle.calls.specs.declared.hypervisor.start.PortAcceptance.{PortAcceptance}
-use Rattle.calls.specs.declared.hypervisor.start.PortAcceptance.TheVariants as port_acceptance
-use Rattle.calls.specs.declared.hypervisor.start.Begin.{Begin}
-use Rattle.calls.specs.declared.hypervisor.start.Begin.TheVariants as begin
+use Rattle.calls.specs.declared.hypervisor.start.Begun.{Begun}
+use Rattle.calls.specs.declared.hypervisor.start.Begun.TheVariants as begin
 use Rattle.calls.specs.Answers.{code_of}
 use Rattle.calls.specs.Records.{page_limit, is_port, in_array, entry_at, is_free, call_at, with_call}
 use Rattle.calls.specs.Hypervisor.{Turn, turn, answered, going_on, carried_out, is_offset, accept_init, accept_expand, entry_or14, accept_port, first_access, bind_entry, close_entry, priority_entry, link_entry, begin_bind, begin_close, begin_priority, begin_link, init_control_of, init_control, expand_array_of, expand_array, started, bind_start, close_start, set_priority, raise_start, unmask_start, view_of, staged, reply_found, reply_of}
@@ -75,18 +72,18 @@ equal_set ledger p e t = record { size = length-set ledger p e; others = λ k h.
 
 -- ---- what the rows of refusals come to
 
-data Accepts : Acceptance → Type 0 where
-  refuses : {a : Answer} → is_still_linked a ≡ false → Accepts (acceptance.Refused a)
-  accepts : Accepts acceptance.Accepted
+data Accepts : Result Unit Answer → Type 0 where
+  refuses : {a : Answer} → is_still_linked a ≡ false → Accepts (Err a)
+  accepts : Accepts (Ok tt)
 
-data AcceptsPort (n : ℕ) (ledger : List ℕ) (p : Port) : PortAcceptance → Type 0 where
-  refuses_port : {a : Answer} → is_still_linked a ≡ false → AcceptsPort n ledger p (port_acceptance.Refused a)
-  accepts_port : {e : ℕ} → is_port n p.0 ≡ true → p.0 < length ledger → AcceptsPort n ledger p (port_acceptance.Entry e)
+data AcceptsPort (n : ℕ) (ledger : List ℕ) (p : Port) : Result ℕ Answer → Type 0 where
+  refuses_port : {a : Answer} → is_still_linked a ≡ false → AcceptsPort n ledger p (Err a)
+  accepts_port : {e : ℕ} → is_port n p.0 ≡ true → p.0 < length ledger → AcceptsPort n ledger p (Ok e)
 
-data Begins (n pages : ℕ) (ledger : List ℕ) (p : Port) : Begin → Type 0 where
-  refuses_call : {a : Answer} → is_still_linked a ≡ false → Begins n pages ledger p (begin.Refused a)
-  begins : {o : Owner} → is_free o ≡ false → Accepted n pages (length ledger) p.0 → Begins n pages ledger p (first_access o p)
-  settles : {e : ℕ} → Begins n pages ledger p (begin.Settled e)
+data Begins (n pages : ℕ) (ledger : List ℕ) (p : Port) : Result Begun Answer → Type 0 where
+  refuses_call : {a : Answer} → is_still_linked a ≡ false → Begins n pages ledger p (Err a)
+  begins : {o : Owner} → is_free o ≡ false → Accepted n pages (length ledger) p.0 → Begins n pages ledger p (Ok (first_access o p))
+  settles : {e : ℕ} → Begins n pages ledger p (Ok (begin.Settled e))
 
 accepts_init : (o : Owner) (given : Bool) (vcpu frame frames offset : ℕ) → Accepts (accept_init o given vcpu frame frames offset)
 unfolding accept_init code_of
@@ -116,27 +113,27 @@ module _ (n : ℕ) (ledger : List ℕ) (p : Port) where
 
   module _ (pages : ℕ) where
     -- where the port is in the array a call begins
-    begins_inside : (o : Owner) {other : Begin} → is_free o ≡ false → is_port n p.0 ≡ true → p.0 < length ledger → Begins n pages ledger p other →
-        Begins n pages ledger p (cond (in_array pages p.0) (first_access o p) other)
+    begins_inside : (o : Owner) {other : Result Begun Answer} → is_free o ≡ false → is_port n p.0 ≡ true → p.0 < length ledger → Begins n pages ledger p other →
+        Begins n pages ledger p (cond (in_array pages p.0) (Ok (first_access o p)) other)
     begins_inside o busy port entry b =
         by_test (Begins n pages ledger p) (in_array pages p.0) (λ h. begins busy (record { port = port; inside = h; entry = entry })) (λ h. b)
 
-    begins_bind : {a : PortAcceptance} → AcceptsPort n ledger p a → Begins n pages ledger p (bind_entry pages p a)
+    begins_bind : {a : Result ℕ Answer} → AcceptsPort n ledger p a → Begins n pages ledger p (bind_entry pages p a)
     unfolding code_of is_free
     begins_bind (refuses_port h) = refuses_call h
     begins_bind (accepts_port {e} port entry) = choose (Begins n pages ledger p) (bound e) (refuses_call refl) (begins_inside owner.Bind refl port entry settles)
 
-    begins_close : {a : PortAcceptance} → AcceptsPort n ledger p a → Begins n pages ledger p (close_entry pages p a)
+    begins_close : {a : Result ℕ Answer} → AcceptsPort n ledger p a → Begins n pages ledger p (close_entry pages p a)
     unfolding code_of is_free
     begins_close (refuses_port h) = refuses_call h
     begins_close (accepts_port {e} port entry) = choose (Begins n pages ledger p) (not (bound e)) (refuses_call refl) (begins_inside owner.Close refl port entry settles)
 
-    begins_priority : (r : Priority) {a : PortAcceptance} → AcceptsPort n ledger p a → Begins n pages ledger p (priority_entry r a)
+    begins_priority : (r : Priority) {a : Result ℕ Answer} → AcceptsPort n ledger p a → Begins n pages ledger p (priority_entry r a)
     unfolding code_of
     begins_priority r (refuses_port h) = refuses_call h
     begins_priority r (accepts_port port entry) = choose (Begins n pages ledger p) (ltb 15 r.0) (refuses_call refl) settles
 
-    begins_link : (starts : Owner) → is_free starts ≡ false → {a : PortAcceptance} → AcceptsPort n ledger p a → Begins n pages ledger p (link_entry starts pages p a)
+    begins_link : (starts : Owner) → is_free starts ≡ false → {a : Result ℕ Answer} → AcceptsPort n ledger p a → Begins n pages ledger p (link_entry starts pages p a)
     unfolding code_of
     begins_link starts busy (refuses_port h) = refuses_call h
     begins_link starts busy (accepts_port {e} port entry) =
@@ -147,17 +144,17 @@ module _ (n : ℕ) (ledger : List ℕ) (p : Port) where
 -- ---- every turn
 
 module _ (n : ℕ) (d : Domain) (ledger : List ℕ) where
-  kind_init : (s : Start) {a : Acceptance} → Accepts a → Kind n d (Starts s ledger) (turn (init_control_of n d a) ledger)
+  kind_init : (s : Start) {a : Result Unit Answer} → Accepts a → Kind n d (Starts s ledger) (turn (init_control_of n d a) ledger)
   unfolding code_of
   kind_init s (refuses h) = refused (at_start h)
   kind_init s accepts = settled refl (le_refl _) equal_itself
 
-  kind_expand : (s : Start) {a : Acceptance} → Accepts a → Kind n d (Starts s ledger) (turn (expand_array_of d a) ledger)
+  kind_expand : (s : Start) {a : Result Unit Answer} → Accepts a → Kind n d (Starts s ledger) (turn (expand_array_of d a) ledger)
   unfolding code_of
   kind_expand s (refuses h) = refused (at_start h)
   kind_expand s accepts = settled refl (one_more_lem d.pages) equal_itself
 
-  kind_started : (s : Start) (p : Port) {b : Begin} → ((k : ℕ) → starts_on s k ≡ false → eqb k p.0 ≡ false) → Begins n d.pages ledger p b → Kind n d (Starts s ledger) (started n d ledger p b)
+  kind_started : (s : Start) (p : Port) {b : Result Begun Answer} → ((k : ℕ) → starts_on s k ≡ false → eqb k p.0 ≡ false) → Begins n d.pages ledger p b → Kind n d (Starts s ledger) (started n d ledger p b)
   unfolding code_of started
   kind_started s p t (refuses_call h) = refused (at_start h)
   kind_started s p t (begins busy on) = begun busy on

@@ -1,7 +1,7 @@
 -- What holds of all calls and replies of Hypervisor, Guest and ClearMask: the access named is the one that the record waits for, refusals
 -- change nothing, little else changes, and counts are right. The proofs are in proofs/. n is the number of link bits.
 -- Assumes nothing.
-use Rattle.std.specs.Prelude.{ℕ, ◌+◌, ◌%◌, min, ◌≡◌, Bool, true, false, cond, not, ◌&&◌, List, [], ◌∷◌, ◌⊎◌, ◌≢◌, length, get_or, set, eqb, leb}
+use Rattle.std.specs.Prelude.{Result, Ok, Err, ℕ, ◌+◌, ◌%◌, min, ◌≡◌, Bool, true, false, cond, not, ◌&&◌, List, [], ◌∷◌, ◌⊎◌, ◌≢◌, length, get_or, set, eqb, leb}
 use Rattle.word.specs.declared.Port.{Port}
 use Rattle.word.specs.declared.Priority.{Priority}
 use Rattle.word.specs.Ready.{is_ready, merged, lowest}
@@ -11,8 +11,8 @@ use Rattle.calls.specs.declared.types.Answer.{Answer}
 use Rattle.calls.specs.declared.types.Answer.TheVariants.{StillLinked, BadIndex}
 use Rattle.calls.specs.declared.types.Next.{Next}
 use Rattle.calls.specs.declared.types.Next.TheVariants as next
-use Rattle.calls.specs.declared.types.Masking.{Masking}
-use Rattle.calls.specs.declared.types.Masking.TheVariants as masking
+use Rattle.calls.specs.declared.types.Made.{Made}
+use Rattle.calls.specs.declared.types.Refused.{Refused}
 use Rattle.calls.specs.declared.types.Owner.TheVariants as owner
 use Rattle.calls.specs.declared.types.Stage.{Stage}
 use Rattle.calls.specs.declared.types.Stage.TheVariants.{First, R2, R3, R4, SetBusy, ClearBusy, R5, R6}
@@ -283,9 +283,9 @@ module _ {Record Request : Type 0} (side : Side Record Request) where
   Counts = (r : Record) (acts : List Request) → side.under_way r ≡ false → Counted (run (record { state = r; named = 0 }) acts)
 
 -- mask gives its access and its answer together, and counts 1; refused, it counts 0
-abbrev pub mask_counted : Masking → Type 0
-mask_counted (masking.Made x a count) = count ≡ 1
-mask_counted (masking.Refused a count) = (is_refusal a ≡ true) × (count ≡ 0)
+abbrev pub mask_counted : Result Made Refused → Type 0
+mask_counted (Ok m) = m.count ≡ 1
+mask_counted (Err r) = (is_refusal r.answer ≡ true) × (r.count ≡ 0)
 
 abbrev pub MaskCounts : Type 0
 MaskCounts = (n : ℕ) (p : Port) (words : ℕ) → mask_counted (mask_of n p words)

@@ -2,7 +2,7 @@
 -- call and reply gives for any record, ledger and word seen. R4 tries as document 02 has it (T-05), with BUSY. n is the number
 -- of link bits.
 -- Assumes nothing.
-use Rattle.std.specs.Prelude.{ℕ, ◌+◌, ◌%◌, Bool, true, cond, not, ◌&&◌, List, get_or, set, eqb, ltb, leb}
+use Rattle.std.specs.Prelude.{Option, Some, None, Result, Ok, Err, ℕ, ◌+◌, ◌%◌, Bool, true, cond, not, ◌&&◌, List, get_or, set, eqb, ltb, leb}
 use Rattle.word.specs.declared.Port.{Port}
 use Rattle.word.specs.declared.Queue.{Queue}
 use Rattle.word.specs.declared.Priority.{Priority}
@@ -25,16 +25,10 @@ use Rattle.calls.specs.declared.types.Stage.TheVariants.{First, R2, R3, R4, SetB
 use Rattle.calls.specs.declared.types.Call.{Call}
 use Rattle.calls.specs.declared.types.Domain.{Domain}
 use Rattle.calls.specs.declared.types.Outcome.{Outcome}
-use Rattle.calls.specs.declared.records.Lookup.{Lookup}
-use Rattle.calls.specs.declared.records.Lookup.TheVariants.{Found, Missing}
 use Rattle.calls.specs.declared.hypervisor.stage.View.{View}
 use Rattle.calls.specs.declared.hypervisor.stage.Move.{Move}
-use Rattle.calls.specs.declared.hypervisor.start.Acceptance.{Acceptance}
-use Rattle.calls.specs.declared.hypervisor.start.Acceptance.TheVariants as acceptance
-use Rattle.calls.specs.declared.hypervisor.start.PortAcceptance.{PortAcceptance}
-use Rattle.calls.specs.declared.hypervisor.start.PortAcceptance.TheVariants as port_acceptance
-use Rattle.calls.specs.declared.hypervisor.start.Begin.{Begin}
-use Rattle.calls.specs.declared.hypervisor.start.Begin.TheVariants as begin
+use Rattle.calls.specs.declared.hypervisor.start.Begun.{Begun}
+use Rattle.calls.specs.declared.hypervisor.start.Begun.TheVariants as begin
 use Rattle.calls.specs.Records.{one_more, page_limit, is_port, in_array, entry_at, is_free, call_at, idle_call, with_call}
 
 -- ---- refusals, each call's row in its order
@@ -43,81 +37,81 @@ use Rattle.calls.specs.Records.{one_more, page_limit, is_port, in_array, entry_a
 unfoldable pub is_offset : ℕ → Bool
 is_offset offset = eqb (offset % 8) 0 && leb offset 4024
 
-unfoldable pub accept_init : Owner → Bool → ℕ → ℕ → ℕ → ℕ → Acceptance
+unfoldable pub accept_init : Owner → Bool → ℕ → ℕ → ℕ → ℕ → Result Unit Answer
 accept_init o given vcpu frame frames offset =
-    cond (not (is_free o)) (acceptance.Refused CallUnderWay)
-    (cond (not (eqb vcpu 0)) (acceptance.Refused BadVcpu)
-    (cond given (acceptance.Refused AlreadyGiven)
-    (cond (leb frames frame) (acceptance.Refused BadFrame)
-    (cond (not (is_offset offset)) (acceptance.Refused BadOffset)
-    acceptance.Accepted))))
+    cond (not (is_free o)) (Err CallUnderWay)
+    (cond (not (eqb vcpu 0)) (Err BadVcpu)
+    (cond given (Err AlreadyGiven)
+    (cond (leb frames frame) (Err BadFrame)
+    (cond (not (is_offset offset)) (Err BadOffset)
+    (Ok tt)))))
 
 -- expand_array: 15, 10, 13, 11
-unfoldable pub accept_expand : ℕ → Owner → Bool → ℕ → ℕ → ℕ → Acceptance
+unfoldable pub accept_expand : ℕ → Owner → Bool → ℕ → ℕ → ℕ → Result Unit Answer
 accept_expand n o given pages frame frames =
-    cond (not (is_free o)) (acceptance.Refused CallUnderWay)
-    (cond (not given) (acceptance.Refused NotGiven)
-    (cond (leb (page_limit n) pages) (acceptance.Refused TooManyPages)
-    (cond (leb frames frame) (acceptance.Refused BadFrame)
-    acceptance.Accepted)))
+    cond (not (is_free o)) (Err CallUnderWay)
+    (cond (not given) (Err NotGiven)
+    (cond (leb (page_limit n) pages) (Err TooManyPages)
+    (cond (leb frames frame) (Err BadFrame)
+    (Ok tt))))
 
 -- every call on a port: 15, 10, 3, 14
-abbrev pub entry_or14 : Lookup → PortAcceptance
-entry_or14 Missing = port_acceptance.Refused NoEntry
-entry_or14 (Found e) = port_acceptance.Entry e
+abbrev pub entry_or14 : Option ℕ → Result ℕ Answer
+entry_or14 None = Err NoEntry
+entry_or14 (Some e) = Ok e
 
-unfoldable pub accept_port : ℕ → Owner → Bool → Port → Lookup → PortAcceptance
+unfoldable pub accept_port : ℕ → Owner → Bool → Port → Option ℕ → Result ℕ Answer
 accept_port n o given p found =
-    cond (not (is_free o)) (port_acceptance.Refused CallUnderWay)
-    (cond (not given) (port_acceptance.Refused NotGiven)
-    (cond (not (is_port n p.0)) (port_acceptance.Refused BadPort)
+    cond (not (is_free o)) (Err CallUnderWay)
+    (cond (not given) (Err NotGiven)
+    (cond (not (is_port n p.0)) (Err BadPort)
     (entry_or14 found)))
 
 -- the call is under way, and its first access named
-abbrev pub first_access : Owner → Port → Begin
-first_access o p = begin.Begun (call_at o First p (queue_at 0) 1)
+abbrev pub first_access : Owner → Port → Begun
+first_access o p = begin.UnderWay (call_at o First p (queue_at 0) 1)
 
 -- bind: then 5. In the array the word is read first; outside it the entry changes at once
-abbrev pub bind_entry : ℕ → Port → PortAcceptance → Begin
-bind_entry pages p (port_acceptance.Refused a) = begin.Refused a
-bind_entry pages p (port_acceptance.Entry e) =
-    cond (bound e) (begin.Refused AlreadyBound)
-    (cond (in_array pages p.0) (first_access owner.Bind p)
-    (begin.Settled (bound_entry e)))
+abbrev pub bind_entry : ℕ → Port → Result ℕ Answer → Result Begun Answer
+bind_entry pages p (Err a) = Err a
+bind_entry pages p (Ok e) =
+    cond (bound e) (Err AlreadyBound)
+    (cond (in_array pages p.0) (Ok (first_access owner.Bind p))
+    (Ok (begin.Settled (bound_entry e))))
 
-unfoldable pub begin_bind : ℕ → Owner → Bool → ℕ → Port → Lookup → Begin
+unfoldable pub begin_bind : ℕ → Owner → Bool → ℕ → Port → Option ℕ → Result Begun Answer
 begin_bind n o given pages p found = bind_entry pages p (accept_port n o given p found)
 
 -- close: then 4. Unbound, priority 7; in the array PENDING is cleared first
-abbrev pub close_entry : ℕ → Port → PortAcceptance → Begin
-close_entry pages p (port_acceptance.Refused a) = begin.Refused a
-close_entry pages p (port_acceptance.Entry e) =
-    cond (not (bound e)) (begin.Refused NotBound)
-    (cond (in_array pages p.0) (first_access owner.Close p)
-    (begin.Settled (closed_entry e)))
+abbrev pub close_entry : ℕ → Port → Result ℕ Answer → Result Begun Answer
+close_entry pages p (Err a) = Err a
+close_entry pages p (Ok e) =
+    cond (not (bound e)) (Err NotBound)
+    (cond (in_array pages p.0) (Ok (first_access owner.Close p))
+    (Ok (begin.Settled (closed_entry e))))
 
-unfoldable pub begin_close : ℕ → Owner → Bool → ℕ → Port → Lookup → Begin
+unfoldable pub begin_close : ℕ → Owner → Bool → ℕ → Port → Option ℕ → Result Begun Answer
 begin_close n o given pages p found = close_entry pages p (accept_port n o given p found)
 
 -- set_priority: then 8; bound or not
-abbrev pub priority_entry : Priority → PortAcceptance → Begin
-priority_entry r (port_acceptance.Refused a) = begin.Refused a
-priority_entry r (port_acceptance.Entry e) =
-    cond (ltb 15 r.0) (begin.Refused BadPriority)
-    (begin.Settled (with_priority e r.0))
+abbrev pub priority_entry : Priority → Result ℕ Answer → Result Begun Answer
+priority_entry r (Err a) = Err a
+priority_entry r (Ok e) =
+    cond (ltb 15 r.0) (Err BadPriority)
+    (Ok (begin.Settled (with_priority e r.0)))
 
-unfoldable pub begin_priority : ℕ → Owner → Bool → Port → Priority → Lookup → Begin
+unfoldable pub begin_priority : ℕ → Owner → Bool → Port → Priority → Option ℕ → Result Begun Answer
 begin_priority n o given p r found = priority_entry r (accept_port n o given p found)
 
 -- raise and unmask: then 4, 6
-abbrev pub link_entry : Owner → ℕ → Port → PortAcceptance → Begin
-link_entry starts pages p (port_acceptance.Refused a) = begin.Refused a
-link_entry starts pages p (port_acceptance.Entry e) =
-    cond (not (bound e)) (begin.Refused NotBound)
-    (cond (not (in_array pages p.0)) (begin.Refused OutsideArray)
-    (first_access starts p))
+abbrev pub link_entry : Owner → ℕ → Port → Result ℕ Answer → Result Begun Answer
+link_entry starts pages p (Err a) = Err a
+link_entry starts pages p (Ok e) =
+    cond (not (bound e)) (Err NotBound)
+    (cond (not (in_array pages p.0)) (Err OutsideArray)
+    (Ok (first_access starts p)))
 
-unfoldable pub begin_link : ℕ → Owner → Owner → Bool → ℕ → Port → Lookup → Begin
+unfoldable pub begin_link : ℕ → Owner → Owner → Bool → ℕ → Port → Option ℕ → Result Begun Answer
 begin_link n starts o given pages p found = link_entry starts pages p (accept_port n o given p found)
 
 -- ---- steps: what the word seen makes of a call c on a port whose entry is e
@@ -312,25 +306,25 @@ answered d a = record { domain = d; next = next.Answer a 0 }
 abbrev pub going_on : ℕ → Domain → Answer → ℕ → Outcome
 going_on n d a count = record { domain = d; next = next_of n d a count }
 
-abbrev pub init_control_of : ℕ → Domain → Acceptance → Outcome
-init_control_of n d (acceptance.Refused a) = answered d a
-init_control_of n d acceptance.Accepted = answered (record { given = true; pages = d.pages; tails = d.tails; call = d.call }) (LinkBits n)
+abbrev pub init_control_of : ℕ → Domain → Result Unit Answer → Outcome
+init_control_of n d (Err a) = answered d a
+init_control_of n d (Ok tt) = answered (record { given = true; pages = d.pages; tails = d.tails; call = d.call }) (LinkBits n)
 
 unfoldable pub init_control : ℕ → Domain → ℕ → ℕ → ℕ → ℕ → Outcome
 init_control n d vcpu frame frames offset = init_control_of n d (accept_init d.call.owner d.given vcpu frame frames offset)
 
-abbrev pub expand_array_of : Domain → Acceptance → Outcome
-expand_array_of d (acceptance.Refused a) = answered d a
-expand_array_of d acceptance.Accepted = answered (record { given = d.given; pages = one_more d.pages; tails = d.tails; call = d.call }) Done
+abbrev pub expand_array_of : Domain → Result Unit Answer → Outcome
+expand_array_of d (Err a) = answered d a
+expand_array_of d (Ok tt) = answered (record { given = d.given; pages = one_more d.pages; tails = d.tails; call = d.call }) Done
 
 unfoldable pub expand_array : ℕ → Domain → ℕ → ℕ → Outcome
 expand_array n d frame frames = expand_array_of d (accept_expand n d.call.owner d.given d.pages frame frames)
 
 -- what the start of a call on port p comes to
-unfoldable pub started : ℕ → Domain → List ℕ → Port → Begin → Turn
-started n d ledger p (begin.Refused a) = turn (answered d a) ledger
-started n d ledger p (begin.Begun c) = turn (going_on n (with_call d c) Done 0) ledger
-started n d ledger p (begin.Settled e) = turn (answered d Done) (set ledger p.0 e)
+unfoldable pub started : ℕ → Domain → List ℕ → Port → Result Begun Answer → Turn
+started n d ledger p (Err a) = turn (answered d a) ledger
+started n d ledger p (Ok (begin.UnderWay c)) = turn (going_on n (with_call d c) Done 0) ledger
+started n d ledger p (Ok (begin.Settled e)) = turn (answered d Done) (set ledger p.0 e)
 
 unfoldable pub bind_start : ℕ → Domain → List ℕ → Port → Turn
 bind_start n d ledger p = started n d ledger p (begin_bind n d.call.owner d.given d.pages p (entry_at ledger p.0))
@@ -358,9 +352,9 @@ moved d m = record { given = d.given; pages = d.pages; tails = set d.tails m.que
 abbrev pub carried_out : ℕ → Domain → List ℕ → Move → Turn
 carried_out n d ledger m = turn (going_on n (moved d m) m.answer m.count) (set ledger d.call.port.0 m.entry)
 
-abbrev pub reply_found : ℕ → Domain → List ℕ → ℕ → Lookup → Turn
-reply_found n d ledger seen Missing = turn (answered d NoEntry) ledger
-reply_found n d ledger seen (Found e) = carried_out n d ledger (staged d.call e (view_of d e) seen)
+abbrev pub reply_found : ℕ → Domain → List ℕ → ℕ → Option ℕ → Turn
+reply_found n d ledger seen None = turn (answered d NoEntry) ledger
+reply_found n d ledger seen (Some e) = carried_out n d ledger (staged d.call e (view_of d e) seen)
 
 unfoldable pub reply_of : ℕ → Domain → List ℕ → ℕ → Turn
 reply_of n d ledger seen =

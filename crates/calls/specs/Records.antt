@@ -1,6 +1,6 @@
 -- The records of both sides, fresh and changed; the extent of the array; counts. n is the number of link bits.
 -- Assumes nothing.
-use Rattle.std.specs.Prelude.{ℕ, ◌+◌, ◌/◌, ◌^◌, Bool, true, false, cond, not, ◌&&◌, List, length, get_or, replicate, eqb, ltb}
+use Rattle.std.specs.Prelude.{Option, Some, None, ℕ, ◌+◌, ◌/◌, ◌^◌, Bool, true, false, cond, not, ◌&&◌, List, length, get_or, replicate, eqb, ltb}
 use Rattle.word.specs.declared.Port.{Port}
 use Rattle.word.specs.declared.Queue.{Queue}
 use Rattle.word.specs.Word.{port_at, queue_at}
@@ -17,8 +17,6 @@ use Rattle.calls.specs.declared.types.ClearStage.{ClearStage}
 use Rattle.calls.specs.declared.types.ClearStage.TheVariants as clear_stage
 use Rattle.calls.specs.declared.types.ClearCall.{ClearCall}
 use Rattle.calls.specs.declared.types.Guest.{Guest}
-use Rattle.calls.specs.declared.records.Lookup.{Lookup}
-use Rattle.calls.specs.declared.records.Lookup.TheVariants.{Found, Missing}
 
 -- a stored count that can't move further stays
 unfoldable pub one_more : ℕ → ℕ
@@ -38,8 +36,8 @@ unfoldable pub in_array : ℕ → ℕ → Bool
 in_array pages p = ltb (p / 1024) pages
 
 -- the ledger's entry for a port
-unfoldable pub entry_at : List ℕ → ℕ → Lookup
-entry_at ledger p = cond (ltb p (length ledger)) (Found (get_or ledger p 0)) Missing
+unfoldable pub entry_at : List ℕ → ℕ → Option ℕ
+entry_at ledger p = cond (ltb p (length ledger)) (Some (get_or ledger p 0)) None
 
 -- no call under way
 unfoldable pub is_free : Owner → Bool

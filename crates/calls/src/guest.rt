@@ -1,17 +1,21 @@
 // The guest's service with its reply, mask, tell.
 ghost use Rattle.std.specs.Prelude.{◌≡◌};
 ghost use Rattle.word.specs.Word.{link_bits};
-ghost use Rattle.calls.specs.Guest.{is_serving, guest_goes_on, guest_ends, guest_named, bad_index, takes_index, reply_g0, reply_g2, reply_g3, reply_g4, guest_staged, service_queue, guest_due, guest_moved, guest_next, service_start, service_reply, mask_of, tell_of};
+ghost use Rattle.calls.specs.Guest.{is_serving, guest_goes_on, guest_ends, guest_named, bad_index, takes_index, reply_g0, reply_g2, reply_g3, reply_g4, guest_staged, service_queue, guest_due, guest_answered, guest_moved, guest_next, service_start, service_reply, accept_word, mask_of, tell_of};
 
-use crate::records;
-use crate::types::{
-    Access, Answer, Guest, GuestCall, GuestOutcome, GuestStage, Masking, Next, Place,
+use crate::records::{
+    at_queue, guest_call_at, guest_idle, is_clearing, is_port, one_more, with_queue,
 };
+use crate::types::{
+    Access, Answer, Guest, GuestCall, GuestOutcome, GuestStage, Made, Next, Place, Refused,
+};
+use word::event::{all_but, has, link, mask as mask_bit, unlink_operand};
+use word::ready::{cleared, lowest, merged};
 use word::{Flag, Port, Queue};
 
 // All that a service's reply changes: one queue's head H (none where the queue is 16), the local bits, the call; and the
-// answer with its count where the service ends.
-#[derive(Clone, Copy)]
+// answer with its count where the service ends. As in `Move`, queue 16 and an answer beside a call that stands need no `Option`.
+#[derive(Clone, Copy, PartialEq, Eq)]
 pub struct GuestMove {
     pub queue: Queue,
     pub head: u32,
@@ -21,17 +25,11 @@ pub struct GuestMove {
     pub count: u32,
 }
 
+#[tactic(auto, unfolding(crate::specs::Guest::is_serving))]
 pub fn is_serving(stage: GuestStage) -> bool
     ensures { result ≡ is_serving stage }
 {
-    match stage {
-        GuestStage::None => false,
-        GuestStage::G0 => true,
-        GuestStage::G1 => true,
-        GuestStage::G2 => true,
-        GuestStage::G3 => true,
-        GuestStage::G4 => true,
-    }
+    !matches!(stage, GuestStage::None)
 }
 
 // The service goes on; no head changes.
@@ -41,8 +39,8 @@ pub fn guest_goes_on(ready: u32, call: GuestCall) -> GuestMove
     GuestMove {
         queue: Queue(16),
         head: 0,
-        ready: ready,
-        call: call,
+        ready,
+        call,
         answer: Answer::Done,
         count: 0,
     }
@@ -52,14 +50,13 @@ pub fn guest_goes_on(ready: u32, call: GuestCall) -> GuestMove
 pub fn guest_ends(ready: u32, answer: Answer, count: u32) -> GuestMove
     ensures { result ≡ guest_ends ready answer count }
 {
-    let call = records::guest_idle();
     GuestMove {
         queue: Queue(16),
         head: 0,
-        ready: ready,
-        call: call,
-        answer: answer,
-        count: count,
+        ready,
+        call: guest_idle(),
+        answer,
+        count,
     }
 }
 
@@ -67,84 +64,66 @@ pub fn guest_ends(ready: u32, answer: Answer, count: u32) -> GuestMove
 pub fn guest_named(call: GuestCall, stage: GuestStage, port: Port, queue: Queue) -> GuestCall
     ensures { result ≡ guest_named call stage port queue }
 {
-    let count = records::one_more(call.count);
-    records::guest_call_at(stage, port, queue, count)
+    guest_call_at(stage, port, queue, one_more(call.count))
 }
 
 // 18: H and the local bit of the queue become 0.
 pub fn bad_index(call: GuestCall, ready: u32, queue: Queue) -> GuestMove
     ensures { result ≡ bad_index call ready queue }
 {
-    let idle = records::guest_idle();
-    let cleared = word::ready::cleared(ready, queue);
     GuestMove {
-        queue: queue,
+        queue,
         head: 0,
-        ready: cleared,
-        call: idle,
+        ready: cleared(ready, queue),
+        call: guest_idle(),
         answer: Answer::BadIndex,
         count: call.count,
     }
 }
 
 // An index from H or HEAD: 18 where it is 0 or outside her words, else G2.
+#[tactic(auto, unfolding(crate::specs::Guest::takes_index))]
 pub fn takes_index(call: GuestCall, ready: u32, words: u32, queue: Queue, index: u32) -> GuestMove
     ensures { result ≡ takes_index call ready words queue index }
 {
-    let zero = index == 0;
-    if zero {
+    if index == 0 || words <= index {
         return bad_index(call, ready, queue);
     }
-    let outside = words <= index;
-    if outside {
-        return bad_index(call, ready, queue);
-    }
-    let next = guest_named(call, GuestStage::G2, Port(index), queue);
-    guest_goes_on(ready, next)
+    guest_goes_on(ready, guest_named(call, GuestStage::G2, Port(index), queue))
 }
 
 // G0: local bits are added; none gives 20. The lowest set bit is the queue, and head its H: G1 where that is 0.
+#[tactic(auto, unfolding(crate::specs::Guest::reply_g0))]
 pub fn reply_g0(call: GuestCall, ready: u32, words: u32, head: u32, seen: u32) -> GuestMove
     ensures { result ≡ reply_g0 call ready words head seen }
 {
-    let local = word::ready::merged(ready, seen);
-    let none = local == 0;
-    if none {
+    let local = merged(ready, seen);
+    if local == 0 {
         return guest_ends(local, Answer::NothingReady, call.count);
     }
-    let queue = word::ready::lowest(local);
-    let empty = head == 0;
-    if empty {
-        let next = guest_named(call, GuestStage::G1, Port(0), queue);
-        return guest_goes_on(local, next);
+    let queue = lowest(local);
+    if head == 0 {
+        return guest_goes_on(local, guest_named(call, GuestStage::G1, Port(0), queue));
     }
     takes_index(call, local, words, queue, head)
 }
 
 // G2: H becomes the LINK seen; where that is 0 the local bit clears.
+#[tactic(auto, unfolding(crate::specs::Guest::reply_g2))]
 pub fn reply_g2(call: GuestCall, ready: u32, seen: u32) -> GuestMove
     ensures { result ≡ reply_g2 link_bits call ready seen }
 {
     let queue = call.queue;
-    let port = call.port;
-    let link = word::event::link(seen);
-    let next = guest_named(call, GuestStage::G3, port, queue);
-    let last = link.0 == 0;
-    if last {
-        let cleared = word::ready::cleared(ready, queue);
-        return GuestMove {
-            queue: queue,
-            head: 0,
-            ready: cleared,
-            call: next,
-            answer: Answer::Done,
-            count: 0,
-        };
-    }
+    let head = link(seen).0;
+    let next = guest_named(call, GuestStage::G3, call.port, queue);
     GuestMove {
-        queue: queue,
-        head: link.0,
-        ready: ready,
+        queue,
+        head,
+        ready: if head == 0 {
+            cleared(ready, queue)
+        } else {
+            ready
+        },
         call: next,
         answer: Answer::Done,
         count: 0,
@@ -152,45 +131,39 @@ pub fn reply_g2(call: GuestCall, ready: u32, seen: u32) -> GuestMove
 }
 
 // G3: pending and not masked goes on at G4; else 21.
+#[tactic(auto, unfolding(crate::specs::Guest::reply_g3))]
 pub fn reply_g3(call: GuestCall, ready: u32, seen: u32) -> GuestMove
     ensures { result ≡ reply_g3 call ready seen }
 {
-    let queue = call.queue;
-    let port = call.port;
-    let quiet = !word::event::has(seen, Flag::Pending);
-    if quiet {
-        return guest_ends(ready, Answer::Taken(port), call.count);
+    if !has(seen, Flag::Pending) || has(seen, Flag::Masked) {
+        return guest_ends(ready, Answer::Taken(call.port), call.count);
     }
-    let masked = word::event::has(seen, Flag::Masked);
-    if masked {
-        return guest_ends(ready, Answer::Taken(port), call.count);
-    }
-    let next = guest_named(call, GuestStage::G4, port, queue);
-    guest_goes_on(ready, next)
+    guest_goes_on(
+        ready,
+        guest_named(call, GuestStage::G4, call.port, call.queue),
+    )
 }
 
 // G4: 19 if the port was still pending, else 21.
+#[tactic(auto, unfolding(crate::specs::Guest::reply_g4))]
 pub fn reply_g4(call: GuestCall, ready: u32, seen: u32) -> GuestMove
     ensures { result ≡ reply_g4 call ready seen }
 {
-    let port = call.port;
-    let pending = word::event::has(seen, Flag::Pending);
-    if pending {
-        return guest_ends(ready, Answer::HandedOver(port), call.count);
+    if has(seen, Flag::Pending) {
+        return guest_ends(ready, Answer::HandedOver(call.port), call.count);
     }
-    guest_ends(ready, Answer::Taken(port), call.count)
+    guest_ends(ready, Answer::Taken(call.port), call.count)
 }
 
 // The reply of the service's stage, where head is the H of its queue.
+#[tactic(auto, unfolding(crate::specs::Guest::guest_staged))]
 pub fn guest_staged(call: GuestCall, ready: u32, words: u32, head: u32, seen: u32) -> GuestMove
     ensures { result ≡ guest_staged link_bits call ready words head seen }
 {
-    let queue = call.queue;
-    let stage = call.stage;
-    match stage {
+    match call.stage {
         GuestStage::None => guest_ends(ready, Answer::NoCall, 0),
         GuestStage::G0 => reply_g0(call, ready, words, head, seen),
-        GuestStage::G1 => takes_index(call, ready, words, queue, seen),
+        GuestStage::G1 => takes_index(call, ready, words, call.queue, seen),
         GuestStage::G2 => reply_g2(call, ready, seen),
         GuestStage::G3 => reply_g3(call, ready, seen),
         GuestStage::G4 => reply_g4(call, ready, seen),
@@ -198,171 +171,131 @@ pub fn guest_staged(call: GuestCall, ready: u32, words: u32, head: u32, seen: u3
 }
 
 // The queue whose head G0's reply looks at.
+#[tactic(auto, unfolding(crate::specs::Guest::service_queue))]
 pub fn service_queue(ready: u32, seen: u32) -> Queue
     ensures { result ≡ service_queue ready seen }
 {
-    let local = word::ready::merged(ready, seen);
-    word::ready::lowest(local)
+    lowest(merged(ready, seen))
 }
 
 // The access that a service waits for.
+#[tactic(auto, unfolding(crate::specs::Guest::guest_due))]
 pub fn guest_access(call: GuestCall) -> Access
     ensures { result ≡ guest_due link_bits call }
 {
-    let port = call.port;
-    let queue = call.queue;
-    let stage = call.stage;
-    match stage {
+    match call.stage {
         GuestStage::None => Access::Read(Place::Ready),
         GuestStage::G0 => Access::Swap(Place::Ready, 0),
-        GuestStage::G1 => Access::Read(Place::Head(queue)),
-        GuestStage::G2 => {
-            let operand = word::event::unlink_operand();
-            Access::And(Place::Word(port), operand)
-        }
-        GuestStage::G3 => Access::Read(Place::Word(port)),
-        GuestStage::G4 => {
-            let operand = word::event::all_but(Flag::Pending);
-            Access::And(Place::Word(port), operand)
-        }
+        GuestStage::G1 => Access::Read(Place::Head(call.queue)),
+        GuestStage::G2 => Access::And(Place::Word(call.port), unlink_operand()),
+        GuestStage::G3 => Access::Read(Place::Word(call.port)),
+        GuestStage::G4 => Access::And(Place::Word(call.port), all_but(Flag::Pending)),
     }
 }
 
 // The access that is due where a service is under way, else the answer with its count.
+#[tactic(auto, unfolding(crate::specs::Guest::guest_next))]
 pub fn guest_next(guest: Guest, answer: Answer, count: u32) -> Next
     ensures { result ≡ guest_next link_bits guest answer count }
 {
-    let call = guest.call;
-    let stage = call.stage;
-    let free = !is_serving(stage);
-    if free {
-        return Next::Answer(answer, count);
+    if is_serving(guest.call.stage) {
+        return Next::Access(guest_access(guest.call));
     }
-    let access = guest_access(call);
-    Next::Access(access)
+    Next::Answer(answer, count)
+}
+
+// An answer given at once: the record stays, and nothing is counted.
+pub(crate) fn guest_answered(guest: Guest, answer: Answer) -> GuestOutcome
+    ensures { result ≡ guest_answered guest answer }
+{
+    GuestOutcome {
+        guest,
+        next: Next::Answer(answer, 0),
+    }
 }
 
 // The guest after a stage.
+#[tactic(auto, unfolding(crate::specs::Guest::guest_moved))]
 pub fn guest_moved(guest: Guest, step: GuestMove) -> Guest
     ensures { result ≡ guest_moved guest step }
 {
-    let heads = guest.heads;
-    let queue = step.queue;
-    let call = step.call;
-    let clear = guest.clear;
-    let changed = records::with_queue(heads, queue, step.head);
     Guest {
-        heads: changed,
+        heads: with_queue(guest.heads, step.queue, step.head),
         ready: step.ready,
-        words: guest.words,
-        call: call,
-        clear: clear,
+        call: step.call,
+        ..guest
     }
 }
 
 // service: 15, by a clear_mask under way or a service; else G0.
+#[tactic(auto, unfolding(crate::specs::Guest::service_start))]
 pub fn service(guest: Guest) -> GuestOutcome
     ensures { result ≡ service_start link_bits guest }
 {
-    let clear = guest.clear;
-    let clear_stage = clear.stage;
-    let clearing = records::is_clearing(clear_stage);
-    if clearing {
-        return GuestOutcome {
-            guest: guest,
-            next: Next::Answer(Answer::CallUnderWay, 0),
-        };
+    if is_clearing(guest.clear.stage) || is_serving(guest.call.stage) {
+        return guest_answered(guest, Answer::CallUnderWay);
     }
-    let call = guest.call;
-    let stage = call.stage;
-    let busy = is_serving(stage);
-    if busy {
-        return GuestOutcome {
-            guest: guest,
-            next: Next::Answer(Answer::CallUnderWay, 0),
-        };
-    }
-    let heads = guest.heads;
-    let first = records::guest_call_at(GuestStage::G0, Port(0), Queue(0), 1);
-    let begun = Guest {
-        heads: heads,
-        ready: guest.ready,
-        words: guest.words,
-        call: first,
-        clear: clear,
-    };
-    let next = guest_next(begun, Answer::Done, 0);
+    let call = guest_call_at(GuestStage::G0, Port(0), Queue(0), 1);
+    let begun = Guest { call, ..guest };
     GuestOutcome {
         guest: begun,
-        next: next,
+        next: guest_next(begun, Answer::Done, 0),
     }
 }
 
 // The service's reply to the access that was named last: 16, 18.
+#[tactic(auto, unfolding(crate::specs::Guest::service_reply))]
 pub fn service_reply(guest: Guest, seen: u32) -> GuestOutcome
     ensures { result ≡ service_reply link_bits guest seen }
 {
-    let call = guest.call;
-    let stage = call.stage;
-    let free = !is_serving(stage);
-    if free {
-        return GuestOutcome {
-            guest: guest,
-            next: Next::Answer(Answer::NoCall, 0),
-        };
+    if !is_serving(guest.call.stage) {
+        return guest_answered(guest, Answer::NoCall);
     }
-    let heads = guest.heads;
-    let queue = service_queue(guest.ready, seen);
-    let head = records::at_queue(heads, queue);
-    let step = guest_staged(call, guest.ready, guest.words, head, seen);
+    let head = at_queue(guest.heads, service_queue(guest.ready, seen));
+    let step = guest_staged(guest.call, guest.ready, guest.words, head, seen);
     let after = guest_moved(guest, step);
-    let answer = step.answer;
-    let next = guest_next(after, answer, step.count);
     GuestOutcome {
         guest: after,
-        next: next,
+        next: guest_next(after, step.answer, step.count),
     }
+}
+
+// The refusals that a mask and a clear_mask share: 3, then 6 by her number of words.
+#[tactic(auto, unfolding(crate::specs::Guest::accept_word))]
+pub(crate) fn accept_word(port: Port, words: u32) -> Result<(), Answer>
+    ensures { result ≡ accept_word link_bits port words }
+{
+    if !is_port(port) {
+        return Err(Answer::BadPort);
+    }
+    if words <= port.0 {
+        return Err(Answer::OutsideArray);
+    }
+    Ok(())
 }
 
 // mask: 3, then 6 by her number of words; else its access with answer 0. It needs no record and takes no reply.
-pub fn mask(port: Port, words: u32) -> Masking
+#[tactic(auto, unfolding(crate::specs::Guest::mask_of, crate::specs::Guest::accept_word))]
+pub fn mask(port: Port, words: u32) -> Result<Made, Refused>
     ensures { result ≡ mask_of link_bits port words }
 {
-    let bad = !records::is_port(port);
-    if bad {
-        return Masking::Refused(Answer::BadPort, 0);
+    if let Err(answer) = accept_word(port, words) {
+        return Err(Refused { answer, count: 0 });
     }
-    let outside = words <= port.0;
-    if outside {
-        return Masking::Refused(Answer::OutsideArray, 0);
-    }
-    let operand = word::event::mask(Flag::Masked);
-    Masking::Made(Access::Or(Place::Word(port), operand), Answer::Done, 1)
+    Ok(Made {
+        access: Access::Or(Place::Word(port), mask_bit(Flag::Masked)),
+        answer: Answer::Done,
+        count: 1,
+    })
 }
 
 // tell: the number of words becomes the larger of old and told.
+#[tactic(auto, unfolding(crate::specs::Guest::tell_of))]
 pub fn tell(guest: Guest, words: u32) -> GuestOutcome
     ensures { result ≡ tell_of guest words }
 {
-    let more = guest.words < words;
-    if more {
-        let heads = guest.heads;
-        let call = guest.call;
-        let clear = guest.clear;
-        let told = Guest {
-            heads: heads,
-            ready: guest.ready,
-            words: words,
-            call: call,
-            clear: clear,
-        };
-        return GuestOutcome {
-            guest: told,
-            next: Next::Answer(Answer::Done, 0),
-        };
+    if guest.words < words {
+        return guest_answered(Guest { words, ..guest }, Answer::Done);
     }
-    GuestOutcome {
-        guest: guest,
-        next: Next::Answer(Answer::Done, 0),
-    }
+    guest_answered(guest, Answer::Done)
 }

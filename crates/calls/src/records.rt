@@ -7,61 +7,55 @@ ghost use Rattle.calls.specs.Records.{one_more, page_limit, is_port, in_array, e
 use crate::types::{
     Call, ClearCall, ClearStage, Domain, Guest, GuestCall, GuestStage, Owner, Stage,
 };
+use word::entry::fresh_entry;
+use word::event::LINKS;
 use word::{Port, Queue};
 
-// A ledger's entry for a port.
-#[derive(Clone, Copy)]
-pub enum Lookup {
-    Found(u16),
-    Missing,
-}
-
 // A count that stays where it can't move further.
+#[tactic(auto, unfolding(crate::specs::Records::one_more))]
 pub fn one_more(count: u32) -> u32
     ensures { result ≡ one_more count }
 {
-    if count < 0xFFFF_FFFF {
-        count + 1
-    } else {
-        count
-    }
+    count.saturating_add(1)
 }
 
 // Whether a number is a port: not 0, and below 131,072 (refusal 3 where it is none).
+#[tactic(auto, unfolding(crate::specs::Records::is_port))]
 pub fn is_port(port: Port) -> bool
     ensures { result ≡ is_port link_bits port.0 }
 {
-    let p = port.0;
-    let zero = p == 0;
-    if zero {
-        return false;
-    }
-    p < word::event::LINKS
+    port.0 != 0 && port.0 < LINKS
 }
 
 // The most pages that an array can have.
 pub fn page_limit() -> u32
     ensures { result ≡ page_limit link_bits }
 {
-    word::event::LINKS / 1024
+    LINKS / 1024
 }
 
 // Whether a port lies in an array of so many pages.
+#[tactic(auto, unfolding(crate::specs::Records::in_array))]
 pub fn in_array(pages: u32, port: Port) -> bool
     ensures { result ≡ in_array pages port.0 }
 {
     port.0 / 1024 < pages
 }
 
-pub fn entry_at(ledger: &[u16], port: Port) -> Lookup
+// A ledger's entry for a port, where it has one.
+#[tactic(auto, unfolding(crate::specs::Records::entry_at))]
+pub fn entry_at(ledger: &[u16], port: Port) -> Option<u16>
     ensures { result ≡ entry_at ledger.now port.0 }
 {
-    let at = port.0 as usize;
-    let inside = at < ledger.len();
-    if inside {
-        Lookup::Found(ledger[at])
-    } else {
-        Lookup::Missing
+    ledger.get(port.0 as usize).copied()
+}
+
+// Another value at an index; an index past the end changes nothing.
+pub fn put_at<T: Copy>(items: &mut [T], at: usize, value: T)
+    ensures { items.new ≡ set items.old at value }
+{
+    if at < items.len() {
+        items[at] = value;
     }
 }
 
@@ -69,56 +63,44 @@ pub fn entry_at(ledger: &[u16], port: Port) -> Lookup
 pub fn put_entry(ledger: &mut [u16], port: Port, entry: u16)
     ensures { ledger.new ≡ set ledger.old port.0 entry }
 {
-    let at = port.0 as usize;
-    if at < ledger.len() {
-        ledger[at] = entry;
-    }
+    put_at(ledger, port.0 as usize, entry);
 }
 
 // A queue's tail or head; 0 for a number that is none of the sixteen queues.
 pub fn at_queue(values: [u32; 16], queue: Queue) -> u32
     ensures { result ≡ get_or values queue.0 0 }
 {
-    let k = queue.0;
-    if k < 16 { values[k as usize] } else { 0 }
+    values.get(queue.0 as usize).copied().unwrap_or(0)
 }
 
 // The tails or heads with one of them changed; none changes for a number that is none of the sixteen queues.
 pub fn with_queue(values: [u32; 16], queue: Queue, value: u32) -> [u32; 16]
     ensures { result ≡ set values queue.0 value }
 {
-    let k = queue.0;
     let mut changed = values;
-    if k < 16 {
-        changed[k as usize] = value;
-    }
+    put_at(&mut changed, queue.0 as usize, value);
     changed
 }
 
 // Whether no call is under way.
+#[tactic(auto, unfolding(crate::specs::Records::is_free))]
 pub fn is_free(owner: Owner) -> bool
     ensures { result ≡ is_free owner }
 {
-    match owner {
-        Owner::None => true,
-        Owner::Bind => false,
-        Owner::Close => false,
-        Owner::Raise => false,
-        Owner::Unmask => false,
-    }
+    matches!(owner, Owner::None)
 }
 
 pub fn call_at(owner: Owner, stage: Stage, port: Port, queue: Queue, count: u32) -> Call
     ensures { result ≡ call_at owner stage port queue count }
 {
     Call {
-        owner: owner,
-        stage: stage,
-        port: port,
-        queue: queue,
+        owner,
+        stage,
+        port,
+        queue,
         word: 0,
         tries: 0,
-        count: count,
+        count,
     }
 }
 
@@ -132,24 +114,17 @@ pub fn idle_call() -> Call
 pub fn with_call(domain: Domain, call: Call) -> Domain
     ensures { result ≡ with_call domain call }
 {
-    let tails = domain.tails;
-    Domain {
-        given: domain.given,
-        pages: domain.pages,
-        tails: tails,
-        call: call,
-    }
+    Domain { call, ..domain }
 }
 
 pub fn fresh_domain() -> Domain
     ensures { result ≡ fresh_domain }
 {
-    let call = idle_call();
     Domain {
         given: false,
         pages: 0,
         tails: [0; 16],
-        call: call,
+        call: idle_call(),
     }
 }
 
@@ -157,22 +132,17 @@ pub fn fresh_domain() -> Domain
 pub fn fresh_ledger(ledger: &mut [u16])
     ensures { ledger.new ≡ replicate (length ledger.old) fresh_entry }
 {
-    let mut i = 0;
-    let fresh = word::entry::fresh_entry();
-    while i < ledger.len() {
-        ledger[i] = fresh;
-        i += 1;
-    }
+    ledger.fill(fresh_entry());
 }
 
 pub fn guest_call_at(stage: GuestStage, port: Port, queue: Queue, count: u32) -> GuestCall
     ensures { result ≡ guest_call_at stage port queue count }
 {
     GuestCall {
-        stage: stage,
-        port: port,
-        queue: queue,
-        count: count,
+        stage,
+        port,
+        queue,
+        count,
     }
 }
 
@@ -184,24 +154,21 @@ pub fn guest_idle() -> GuestCall
 }
 
 // Whether a clear_mask is under way.
+#[tactic(auto, unfolding(crate::specs::Records::is_clearing))]
 pub fn is_clearing(stage: ClearStage) -> bool
     ensures { result ≡ is_clearing stage }
 {
-    match stage {
-        ClearStage::None => false,
-        ClearStage::Read => true,
-        ClearStage::Cas => true,
-    }
+    !matches!(stage, ClearStage::None)
 }
 
 pub fn clear_at(stage: ClearStage, port: Port, word: u32, count: u32) -> ClearCall
     ensures { result ≡ clear_at stage port word count }
 {
     ClearCall {
-        stage: stage,
-        port: port,
-        word: word,
-        count: count,
+        stage,
+        port,
+        word,
+        count,
     }
 }
 
@@ -215,13 +182,11 @@ pub fn clear_idle() -> ClearCall
 pub fn fresh_guest() -> Guest
     ensures { result ≡ fresh_guest }
 {
-    let call = guest_idle();
-    let clear = clear_idle();
     Guest {
         heads: [0; 16],
         ready: 0,
         words: 0,
-        call: call,
-        clear: clear,
+        call: guest_idle(),
+        clear: clear_idle(),
     }
 }

@@ -2,7 +2,7 @@
 use word::{Port, Queue};
 
 // A place in the shared memory.
-#[derive(Clone, Copy)]
+#[derive(Clone, Copy, PartialEq, Eq)]
 pub enum Place {
     Word(Port),
     Ready,
@@ -10,7 +10,7 @@ pub enum Place {
 }
 
 // An atomic access: a store's and a swap's value, an or's and an and's operand, a cas's old and new word.
-#[derive(Clone, Copy)]
+#[derive(Clone, Copy, PartialEq, Eq)]
 pub enum Access {
     Read(Place),
     Store(Place, u32),
@@ -21,7 +21,7 @@ pub enum Access {
 }
 
 // Document 01's numbers that a call can give, and document 02's 35. LinkBits is init_control's 0.
-#[derive(Clone, Copy)]
+#[derive(Clone, Copy, PartialEq, Eq)]
 pub enum Answer {
     Done,
     LinkBits(u32),
@@ -49,22 +49,32 @@ pub enum Answer {
     CallUnmask,
 }
 
-// What a call or a reply comes to: the next access, or the answer with its count of accesses.
-#[derive(Clone, Copy)]
+// What a call or a reply comes to: the next access, or the answer with its count of accesses. Neither is a failure of the other, so
+// it is no `Result`.
+#[derive(Clone, Copy, PartialEq, Eq)]
 pub enum Next {
     Access(Access),
     Answer(Answer, u32),
 }
 
-// What a mask comes to: its access together with its answer and count, or a refusal with its count.
-#[derive(Clone, Copy)]
-pub enum Masking {
-    Made(Access, Answer, u32),
-    Refused(Answer, u32),
+// What a mask that is made comes to: its access together with its answer and count.
+#[derive(Clone, Copy, PartialEq, Eq)]
+pub struct Made {
+    pub access: Access,
+    pub answer: Answer,
+    pub count: u32,
 }
 
-// The call that a hypervisor's call under way belongs to.
-#[derive(Clone, Copy)]
+// A refusal with its count.
+#[derive(Clone, Copy, PartialEq, Eq)]
+pub struct Refused {
+    pub answer: Answer,
+    pub count: u32,
+}
+
+// The call that a hypervisor's call under way belongs to. None is no call, whatever the call's other fields hold: a record may be lent
+// with any, and each function answers on it, so that `Option<Call>` would take fewer records. Likewise None of the two stages below.
+#[derive(Clone, Copy, PartialEq, Eq)]
 pub enum Owner {
     None,
     Bind,
@@ -75,7 +85,7 @@ pub enum Owner {
 
 // The access that it waits for: the owner's first (a bind's read, a close's and, R1, U1), or one of R2 to R6, with the or that
 // sets BUSY on the tail's word after the first cas of R4, and the and that clears it.
-#[derive(Clone, Copy)]
+#[derive(Clone, Copy, PartialEq, Eq)]
 pub enum Stage {
     First,
     R2,
@@ -90,7 +100,7 @@ pub enum Stage {
 // The hypervisor's call under way. A stage reads the fields that it needs: R3 to R6 the queue, R4 the word that its
 // cas compares with and the number of cas named so far, ClearBusy the latest word seen. The count is the number of accesses named
 // so far.
-#[derive(Clone, Copy)]
+#[derive(Clone, Copy, PartialEq, Eq)]
 pub struct Call {
     pub owner: Owner,
     pub stage: Stage,
@@ -102,7 +112,7 @@ pub struct Call {
 }
 
 // Document 01's house record: whether the control block is given, the array's pages, a tail for each queue (0 is none).
-#[derive(Clone, Copy)]
+#[derive(Clone, Copy, PartialEq, Eq)]
 pub struct Domain {
     pub given: bool,
     pub pages: u32,
@@ -110,15 +120,16 @@ pub struct Domain {
     pub call: Call,
 }
 
-// A domain after a call or a reply, and what that comes to.
-#[derive(Clone, Copy)]
+// A domain after a call or a reply, and what that comes to. It and `GuestOutcome` are no one generic type: their readers
+// name the record by its side, as `outcome.domain`.
+#[derive(Clone, Copy, PartialEq, Eq)]
 pub struct Outcome {
     pub domain: Domain,
     pub next: Next,
 }
 
 // The access that a service waits for.
-#[derive(Clone, Copy)]
+#[derive(Clone, Copy, PartialEq, Eq)]
 pub enum GuestStage {
     None,
     G0,
@@ -129,7 +140,7 @@ pub enum GuestStage {
 }
 
 // The guest's service under way. G1 and G2 read the queue, G2 to G4 the port.
-#[derive(Clone, Copy)]
+#[derive(Clone, Copy, PartialEq, Eq)]
 pub struct GuestCall {
     pub stage: GuestStage,
     pub port: Port,
@@ -138,7 +149,7 @@ pub struct GuestCall {
 }
 
 // The access that a clear_mask waits for.
-#[derive(Clone, Copy)]
+#[derive(Clone, Copy, PartialEq, Eq)]
 pub enum ClearStage {
     None,
     Read,
@@ -146,7 +157,7 @@ pub enum ClearStage {
 }
 
 // The guest's clear_mask under way. The cas compares with the word.
-#[derive(Clone, Copy)]
+#[derive(Clone, Copy, PartialEq, Eq)]
 pub struct ClearCall {
     pub stage: ClearStage,
     pub port: Port,
@@ -156,7 +167,7 @@ pub struct ClearCall {
 
 // Document 01's guest record: a head H for each queue, local ready bits, her number of words; the service and the clear_mask
 // under way.
-#[derive(Clone, Copy)]
+#[derive(Clone, Copy, PartialEq, Eq)]
 pub struct Guest {
     pub heads: [u32; 16],
     pub ready: u32,
@@ -166,7 +177,7 @@ pub struct Guest {
 }
 
 // A guest after a call or a reply, and what that comes to.
-#[derive(Clone, Copy)]
+#[derive(Clone, Copy, PartialEq, Eq)]
 pub struct GuestOutcome {
     pub guest: Guest,
     pub next: Next,

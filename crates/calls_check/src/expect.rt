@@ -5,7 +5,7 @@ use crate::numbers::{Numbers, comes_to};
 use crate::state::State;
 use calls::hypervisor::due;
 use calls::records;
-use calls::types::{Domain, Masking, Next};
+use calls::types::{Domain, Next};
 use script::{place, small, word};
 use std::io;
 use std::io::BufRead;
@@ -37,20 +37,22 @@ fn count_is(domain: Domain, count: u32) -> bool {
 // Whether a mask of a port with so many words is made.
 fn mask_made(port: u32, words: u32) -> bool {
     match calls::guest::mask(Port(port), words) {
-        Masking::Refused(_, _) => false,
-        Masking::Made(access, answer, count) => {
-            let made = numbers::mask_of(port);
+        Err(_) => false,
+        Ok(made) => {
+            let named = numbers::mask_of(port);
             let done = numbers::given(0, 0, 1);
-            comes_to(Next::Access(access), made) && comes_to(Next::Answer(answer, count), done)
+            comes_to(Next::Access(made.access), named)
+                && comes_to(Next::Answer(made.answer, made.count), done)
         }
     }
 }
 
 fn mask_refused(input: &mut impl BufRead, port: u32, words: u32) -> io::Result<bool> {
     match calls::guest::mask(Port(port), words) {
-        Masking::Made(_, _, _) => Ok(false),
-        Masking::Refused(answer, count) => {
-            Ok(comes_to(Next::Answer(answer, count), numbers::refusal(input)?))
+        Ok(_) => Ok(false),
+        Err(refused) => {
+            let next = Next::Answer(refused.answer, refused.count);
+            Ok(comes_to(next, numbers::refusal(input)?))
         }
     }
 }

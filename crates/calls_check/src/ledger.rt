@@ -2,7 +2,6 @@
 use crate::numbers;
 use crate::numbers::comes_to;
 use crate::state::{call, is_call, sized};
-use calls::records::Lookup;
 use calls::types::{Answer, Domain, Next};
 use script::{is, place, small, word};
 use std::io;
@@ -28,8 +27,8 @@ fn begun(pages: u32, ok: bool) -> Held {
 
 fn entry_is(ledger: &[u16], port: u32, entry: u32) -> bool {
     match calls::records::entry_at(ledger, Port(port)) {
-        Lookup::Missing => false,
-        Lookup::Found(found) => found as u32 == entry,
+        None => false,
+        Some(found) => found as u32 == entry,
     }
 }
 

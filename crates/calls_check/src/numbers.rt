@@ -1,4 +1,5 @@
 // What calls come to, as numbers that the script gives too.
+use calls::answer::Code;
 use calls::types::{Access, Answer, Next, Place};
 use script::{name, place, small, word};
 use std::io;
@@ -55,7 +56,7 @@ pub(crate) fn given(number: u32, value: u32, count: u32) -> Numbers {
 }
 
 fn of_answer(answer: Answer, count: u32) -> Numbers {
-    let code = calls::answer::code_of(answer);
+    let code = Code::from(answer);
     given(code.number, code.value, count)
 }
 

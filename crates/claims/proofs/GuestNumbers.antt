@@ -1,5 +1,6 @@
 -- The guest's calls and replies keep her record's numbers small and give small answers; the access that is due is small, and a mask's.
 -- Assumes nothing.
+use Rattle.std.specs.Prelude.{Result, Ok, Err}
 use Prim.Native.Nat.{ℕ}
 use mathlib.Core.Path.{refl}
 use mathlib.Core.Bool.{not}
@@ -18,8 +19,8 @@ use Rattle.word.proofs.ReadyLaws.{merged_lt}
 use Rattle.word.proofs.LowestLaws.{lowest_found}
 use Rattle.calls.specs.declared.types.Answer.{Answer}
 use Rattle.calls.specs.declared.types.Answer.TheVariants.{Done, NoCall, NothingReady, CallUnmask}
-use Rattle.calls.specs.declared.types.Masking.{Masking}
-use Rattle.calls.specs.declared.types.Masking.TheVariants as masking
+use Rattle.calls.specs.declared.types.Made.{Made}
+use Rattle.calls.specs.declared.types.Refused.{Refused}
 use Rattle.calls.specs.declared.types.GuestStage.{GuestStage}
 use Rattle.calls.specs.declared.types.GuestStage.TheVariants.{None, G0, G1, G2, G3, G4}
 use Rattle.calls.specs.declared.types.GuestCall.{GuestCall}
@@ -194,9 +195,9 @@ module _ {n : ℕ} (wide : Width n) (g : Guest) (i : SmallGuest g) where
       choose SmallGuestOutcome (ltb g.words words) (record { guest = record { heads = i.heads; call = i.call; clear = i.clear }; next = answer_small refl }) (record { guest = i; next = answer_small refl })
 
 -- a mask's access and its answer
-abbrev pub SmallMasking : Masking → Type 0
-SmallMasking (masking.Refused a count) = SmallAnswer a
-SmallMasking (masking.Made x a count) = SmallAccess x × SmallAnswer a
+abbrev pub SmallMasking : Result Made Refused → Type 0
+SmallMasking (Err r) = SmallAnswer r.answer
+SmallMasking (Ok y) = SmallAccess y.access × SmallAnswer y.answer
 
 pub mask_small : {n : ℕ} → Width n → (p : Port) (words : ℕ) → SmallMasking (mask_of n p words)
 unfolding mask_of code_of

@@ -1,5 +1,6 @@
 -- The hypervisor's calls and replies keep their record's numbers small and give small answers, and the access that is due is small.
 -- Assumes nothing.
+use Rattle.std.specs.Prelude.{Result, Ok, Err}
 use Prim.Native.Nat.{ℕ}
 use mathlib.Core.Path.{refl}
 use mathlib.Core.Bool.{Bool, cond, not}
@@ -31,12 +32,8 @@ use Rattle.calls.specs.declared.types.Domain.{Domain}
 use Rattle.calls.specs.declared.types.Outcome.{Outcome}
 use Rattle.calls.specs.declared.hypervisor.stage.View.{View}
 use Rattle.calls.specs.declared.hypervisor.stage.Move.{Move}
-use Rattle.calls.specs.declared.hypervisor.start.Acceptance.{Acceptance}
-use Rattle.calls.specs.declared.hypervisor.start.Acceptance.TheVariants as acceptance
-use Rattle.calls.specs.declared.hypervisor.start.PortAcceptance.{PortAcceptance}
-use Rattle.calls.specs.declared.hypervisor.start.PortAcceptance.TheVariants as port_acceptance
-use Rattle.calls.specs.declared.hypervisor.start.Begin.{Begin}
-use Rattle.calls.specs.declared.hypervisor.start.Begin.TheVariants as begin
+use Rattle.calls.specs.declared.hypervisor.start.Begun.{Begun}
+use Rattle.calls.specs.declared.hypervisor.start.Begun.TheVariants as begin
 use Rattle.calls.specs.Answers.{code_of}
 use Rattle.calls.specs.Records.{page_limit, is_port, in_array, entry_at, is_free, idle_call, with_call}
 use Rattle.calls.specs.Hypervisor.{Turn, is_offset, accept_init, accept_expand, entry_or14, accept_port, first_access, bind_entry, close_entry, priority_entry, link_entry, begin_bind, begin_close, begin_priority, begin_link, goes_on, ends, ends_tailed, named, reply_r1, reply_u1, reply_bind, reply_close, reply_first_of, reply_first, after_r2, reply_r2, comparing, clearing, reply_r3, after_first_cas, after_later_cas, reply_r4, reply_set_busy, reply_clear_busy, reply_r5, reply_r6, staged_at, staged, due_first, due_at, due, next_of, init_control_of, init_control, expand_array_of, expand_array, started, bind_start, close_start, set_priority, raise_start, unmask_start, view_of, moved, reply_found, reply_of}
@@ -51,18 +48,18 @@ pub record SmallOutcome (o : Outcome) : Type 0 where
 
 -- ---- what the rows of refusals come to
 
-data SmallAcceptance : Acceptance → Type 0 where
-  refuses : {a : Answer} → SmallAnswer a → SmallAcceptance (acceptance.Refused a)
-  accepts : SmallAcceptance acceptance.Accepted
+data SmallAcceptance : Result Unit Answer → Type 0 where
+  refuses : {a : Answer} → SmallAnswer a → SmallAcceptance (Err a)
+  accepts : SmallAcceptance (Ok tt)
 
-data SmallPort (p : Port) : PortAcceptance → Type 0 where
-  refuses_port : {a : Answer} → SmallAnswer a → SmallPort p (port_acceptance.Refused a)
-  accepts_port : {e : ℕ} → Small p.0 → SmallPort p (port_acceptance.Entry e)
+data SmallPort (p : Port) : Result ℕ Answer → Type 0 where
+  refuses_port : {a : Answer} → SmallAnswer a → SmallPort p (Err a)
+  accepts_port : {e : ℕ} → Small p.0 → SmallPort p (Ok e)
 
-data SmallBegin : Begin → Type 0 where
-  refuses_call : {a : Answer} → SmallAnswer a → SmallBegin (begin.Refused a)
-  begins : {c : Call} → SmallCall c → SmallBegin (begin.Begun c)
-  settles : {e : ℕ} → SmallBegin (begin.Settled e)
+data SmallBegin : Result Begun Answer → Type 0 where
+  refuses_call : {a : Answer} → SmallAnswer a → SmallBegin (Err a)
+  begins : {c : Call} → SmallCall c → SmallBegin (Ok (begin.UnderWay c))
+  settles : {e : ℕ} → SmallBegin (Ok (begin.Settled e))
 
 accepts_init : (o : Owner) (given : Bool) (vcpu frame frames offset : ℕ) → SmallAcceptance (accept_init o given vcpu frame frames offset)
 unfolding accept_init code_of
@@ -90,26 +87,26 @@ module _ (p : Port) where
       (by_test (SmallPort p) (not (is_port n p.0)) (λ h. refuses_port (answer_small refl))
       (λ h. choose (λ found. SmallPort p (entry_or14 found)) (ltb p.0 (length ledger)) (accepts_port (port_small wide p.0 (not-false _ h))) (refuses_port (answer_small refl)))))
 
-  begins_first : (o : Owner) → Small p.0 → SmallBegin (first_access o p)
+  begins_first : (o : Owner) → Small p.0 → SmallBegin (Ok (first_access o p))
   begins_first o h = begins (record { port = h; queue = lit≤ tt; word = lit≤ tt })
 
   module _ (pages : ℕ) where
-    begins_bind : {a : PortAcceptance} → SmallPort p a → SmallBegin (bind_entry pages p a)
+    begins_bind : {a : Result ℕ Answer} → SmallPort p a → SmallBegin (bind_entry pages p a)
     unfolding code_of
     begins_bind (refuses_port h) = refuses_call h
     begins_bind (accepts_port {e} h) = choose SmallBegin (bound e) (refuses_call (answer_small refl)) (choose SmallBegin (in_array pages p.0) (begins_first owner.Bind h) settles)
 
-    begins_close : {a : PortAcceptance} → SmallPort p a → SmallBegin (close_entry pages p a)
+    begins_close : {a : Result ℕ Answer} → SmallPort p a → SmallBegin (close_entry pages p a)
     unfolding code_of
     begins_close (refuses_port h) = refuses_call h
     begins_close (accepts_port {e} h) = choose SmallBegin (not (bound e)) (refuses_call (answer_small refl)) (choose SmallBegin (in_array pages p.0) (begins_first owner.Close h) settles)
 
-    begins_link : (o : Owner) {a : PortAcceptance} → SmallPort p a → SmallBegin (link_entry o pages p a)
+    begins_link : (o : Owner) {a : Result ℕ Answer} → SmallPort p a → SmallBegin (link_entry o pages p a)
     unfolding code_of
     begins_link o (refuses_port h) = refuses_call h
     begins_link o (accepts_port {e} h) = choose SmallBegin (not (bound e)) (refuses_call (answer_small refl)) (choose SmallBegin (not (in_array pages p.0)) (refuses_call (answer_small refl)) (begins_first o h))
 
-  begins_priority : (r : Priority) {a : PortAcceptance} → SmallPort p a → SmallBegin (priority_entry r a)
+  begins_priority : (r : Priority) {a : Result ℕ Answer} → SmallPort p a → SmallBegin (priority_entry r a)
   unfolding code_of
   begins_priority r (refuses_port h) = refuses_call h
   begins_priority r (accepts_port h) = choose SmallBegin (ltb 15 r.0) (refuses_call (answer_small refl)) settles
@@ -216,17 +213,17 @@ module _ {n : ℕ} (wide : Width n) where
 -- ---- every start and reply
 
 module _ {n : ℕ} (wide : Width n) (d : Domain) (i : SmallDomain d) where
-  init_small : {a : Acceptance} → SmallAcceptance a → SmallOutcome (init_control_of n d a)
+  init_small : {a : Result Unit Answer} → SmallAcceptance a → SmallOutcome (init_control_of n d a)
   unfolding code_of
   init_small (refuses h) = record { domain = i; next = h }
   init_small accepts = record { domain = record { tails = i.tails; call = i.call }; next = record { number = lit≤ tt; value = omega arith } }
 
-  expand_small : {a : Acceptance} → SmallAcceptance a → SmallOutcome (expand_array_of d a)
+  expand_small : {a : Result Unit Answer} → SmallAcceptance a → SmallOutcome (expand_array_of d a)
   unfolding code_of
   expand_small (refuses h) = record { domain = i; next = h }
   expand_small accepts = record { domain = record { tails = i.tails; call = i.call }; next = answer_small refl }
 
-  started_small : (ledger : List ℕ) (p : Port) {b : Begin} → SmallBegin b → SmallOutcome (started n d ledger p b).outcome
+  started_small : (ledger : List ℕ) (p : Port) {b : Result Begun Answer} → SmallBegin b → SmallOutcome (started n d ledger p b).outcome
   unfolding started code_of
   started_small ledger p (refuses_call h) = record { domain = i; next = h }
   started_small ledger p (begins {c} h) =

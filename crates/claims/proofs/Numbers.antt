@@ -1,5 +1,6 @@
 -- Every step keeps a world's numbers small, and its events show small ones; a fresh world's are small.
 -- Assumes nothing.
+use Rattle.std.specs.Prelude.{Result, Ok, Err}
 use Prim.Native.Nat.{ℕ, ◌^◌, ◌<◌}
 use mathlib.Core.Path.{refl}
 use mathlib.Core.List.{List, [], ◌∷◌, ◌++◌}
@@ -9,8 +10,8 @@ use Rattle.word.specs.Word.{link_bits, Width, link_bits-width}
 use Rattle.calls.specs.declared.types.Answer.TheVariants.{NoCall}
 use Rattle.calls.specs.declared.types.Next.{Next}
 use Rattle.calls.specs.declared.types.Next.TheVariants as next
-use Rattle.calls.specs.declared.types.Masking.{Masking}
-use Rattle.calls.specs.declared.types.Masking.TheVariants as masking
+use Rattle.calls.specs.declared.types.Made.{Made}
+use Rattle.calls.specs.declared.types.Refused.{Refused}
 use Rattle.calls.specs.declared.types.Domain.{Domain}
 use Rattle.calls.specs.declared.types.Outcome.{Outcome}
 use Rattle.calls.specs.declared.types.GuestOutcome.{GuestOutcome}
@@ -95,12 +96,12 @@ module _ {n : ℕ} (wide : Width n) (w : World) (i : SmallWorld w) where
   starts (Raise p) = begins (acts.Raise p) w.memory.words i.memory.words
   starts (Unmask p) = begins (acts.Unmask p) w.memory.words i.memory.words
 
-  masks : (x : Masking) → SmallMasking x → SmallStepped (step_of (guest_step w (perform_masking w.guest w.memory x)))
-  masks (masking.Refused a count) h =
-      by_guest_lem w i Nothing tt w.memory i.memory (record { guest = w.guest; next = next.Answer a count }) (record { guest = i.guest; next = h })
-  masks (masking.Made x a count) h =
-      by_guest_lem w i (MaskAccess x (performed w.memory x).seen) (h.0, seen_small w.memory i.memory x) _ (performed_small w.memory i.memory x h.0)
-      (record { guest = w.guest; next = next.Answer a count }) (record { guest = i.guest; next = h.1 })
+  masks : (x : Result Made Refused) → SmallMasking x → SmallStepped (step_of (guest_step w (perform_masking w.guest w.memory x)))
+  masks (Err r) h =
+      by_guest_lem w i Nothing tt w.memory i.memory (record { guest = w.guest; next = next.Answer r.answer r.count }) (record { guest = i.guest; next = h })
+  masks (Ok y) h =
+      by_guest_lem w i (MaskAccess y.access (performed w.memory y.access).seen) (h.0, seen_small w.memory i.memory y.access) _ (performed_small w.memory i.memory y.access h.0)
+      (record { guest = w.guest; next = next.Answer y.answer y.count }) (record { guest = i.guest; next = h.1 })
 
   hypervisor_performs : (x : Next) → SmallNext x → SmallStepped (step_of (hypervisor_step w (perform_hypervisor_next n w.domain w.ledger w.memory x)))
   hypervisor_performs (next.Access x) h =

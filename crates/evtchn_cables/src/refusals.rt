@@ -5,7 +5,6 @@ ghost use Rattle.evtchn_cables.specs.Encoded.{port_refusal_bytes, near_refusal_b
 
 use crate::{ends, table};
 use calls::records;
-use calls::records::Lookup;
 use evtchn_fifo::{domain_record, layout, ledger};
 use word::Port;
 
@@ -23,8 +22,8 @@ pub fn port_refusal(domain: &[u8], ledger: &[u8], port: u32) -> u32
         return 3;
     }
     match ledger::entry_in(ledger, Port(port)) {
-        Lookup::Missing => 14,
-        Lookup::Found(entry) => {
+        None => 14,
+        Some(entry) => {
             let bound = word::entry::is_bound(entry);
             if bound {
                 return 0;

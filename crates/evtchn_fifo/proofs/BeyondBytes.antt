@@ -1,5 +1,6 @@
 -- No call writes beyond a record, or beyond a ledger's last whole entry.
 -- Assumes nothing.
+use Rattle.std.specs.Prelude.{None, Option, Some, Result, Ok, Err}
 use Prim.Native.Nat.{ℕ, zero, suc, ◌+◌, ◌*◌, ◌/◌, ◌%◌, ◌≤◌}
 use mathlib.Core.Path.{◌≡◌, refl, ◌∙◌}
 use mathlib.Core.Bool.{Bool, true, false, cond, not}
@@ -12,20 +13,17 @@ use native.Mathlib.Omega.{arith}
 use Rattle.word.specs.declared.Port.{Port}
 use Rattle.word.specs.Word.{port_at}
 use Rattle.word.specs.Entry.{fresh_entry}
+use Rattle.calls.specs.declared.types.Answer.{Answer}
 use Rattle.calls.specs.declared.types.Call.{Call}
 use Rattle.calls.specs.declared.types.GuestCall.{GuestCall}
 use Rattle.calls.specs.declared.types.ClearCall.{ClearCall}
 use Rattle.calls.specs.declared.types.Next.{Next}
 use Rattle.calls.specs.declared.types.Next.TheVariants as next
-use Rattle.calls.specs.declared.records.Lookup.{Lookup}
-use Rattle.calls.specs.declared.records.Lookup.TheVariants.{Found, Missing}
 use Rattle.calls.specs.declared.hypervisor.stage.Move.{Move}
 use Rattle.calls.specs.declared.guest.GuestMove.{GuestMove}
 use Rattle.calls.specs.declared.clear_mask.ClearMove.{ClearMove}
-use Rattle.calls.specs.declared.hypervisor.start.Acceptance.{Acceptance}
-use Rattle.calls.specs.declared.hypervisor.start.Acceptance.TheVariants as acceptance
-use Rattle.calls.specs.declared.hypervisor.start.Begin.{Begin}
-use Rattle.calls.specs.declared.hypervisor.start.Begin.TheVariants as begin
+use Rattle.calls.specs.declared.hypervisor.start.Begun.{Begun}
+use Rattle.calls.specs.declared.hypervisor.start.Begun.TheVariants as begin
 use Rattle.calls.specs.Records.{is_free, guest_idle, is_clearing}
 use Rattle.calls.specs.Hypervisor.{accept_init, accept_expand}
 use Rattle.calls.specs.Guest.{is_serving, service_start}
@@ -138,11 +136,11 @@ fresh_if : (size : ℕ) (r : List ℕ) (b : Bool) (x y : Freshened) → Beyond s
 fresh_if size r true x y a b = a
 fresh_if size r false x y a b = b
 
-starts : (n : ℕ) (r t : List ℕ) (p : Port) (b : Begin) → BothBeyond r t (start_bytes n r t p b)
+starts : (n : ℕ) (r t : List ℕ) (p : Port) (b : Result Begun Answer) → BothBeyond r t (start_bytes n r t p b)
 unfolding start_bytes
-starts n r t p (begin.Refused a) = neither
-starts n r t p (begin.Begun c) = record { domain = call r c; ledger = stays }
-starts n r t p (begin.Settled e) = record { domain = stays; ledger = entry t p.0 e }
+starts n r t p (Err a) = neither
+starts n r t p (Ok (begin.UnderWay c)) = record { domain = call r c; ledger = stays }
+starts n r t p (Ok (begin.Settled e)) = record { domain = stays; ledger = entry t p.0 e }
 
 bytes_if : (size : ℕ) (r : List ℕ) (b : Bool) (x y : List ℕ) → Beyond size r x → Beyond size r y → Beyond size r (cond b x y)
 bytes_if size r true x y a b = a
@@ -153,18 +151,18 @@ moves r m =
     let tailed = value domain_size 8 r m.queue.0 m.tail (omega arith) in
     bytes_if domain_size r (is_free m.call.owner) _ _ (then tailed (four domain_size _ 72 0 (omega arith))) (then tailed (call _ m.call))
 
-finds : (n : ℕ) (r t : List ℕ) (seen : ℕ) (f : Lookup) → BothBeyond r t (reply_found_bytes n r t seen f)
+finds : (n : ℕ) (r t : List ℕ) (seen : ℕ) (f : Option ℕ) → BothBeyond r t (reply_found_bytes n r t seen f)
 unfolding move_bytes
-finds n r t seen Missing = neither
-finds n r t seen (Found e) = record { domain = moves r (move_at r e seen); ledger = entry t (call_at r).port.0 _ }
+finds n r t seen None = neither
+finds n r t seen (Some e) = record { domain = moves r (move_at r e seen); ledger = entry t (call_at r).port.0 _ }
 
-inits : (n : ℕ) (r : List ℕ) (a : Acceptance) → Beyond domain_size r (init_bytes_of n r a).record_bytes
-inits n r (acceptance.Refused a) = stays
-inits n r acceptance.Accepted = four domain_size r 0 1 (omega arith)
+inits : (n : ℕ) (r : List ℕ) (a : Result Unit Answer) → Beyond domain_size r (init_bytes_of n r a).record_bytes
+inits n r (Err a) = stays
+inits n r (Ok tt) = four domain_size r 0 1 (omega arith)
 
-expands : (r : List ℕ) (a : Acceptance) → Beyond domain_size r (expand_bytes_of r a).record_bytes
-expands r (acceptance.Refused a) = stays
-expands r acceptance.Accepted = four domain_size r 4 _ (omega arith)
+expands : (r : List ℕ) (a : Result Unit Answer) → Beyond domain_size r (expand_bytes_of r a).record_bytes
+expands r (Err a) = stays
+expands r (Ok tt) = four domain_size r 4 _ (omega arith)
 
 serves : (r : List ℕ) (c : GuestCall) (x : Next) → Beyond guest_size r (began_bytes r c x).record_bytes
 serves r c (next.Answer a count) = stays

@@ -1,5 +1,6 @@
 -- A refusal keeps every byte: whatever changes one is answered 0, 1, 2 or 7, by 18 to 21 or 35, or by an access.
 -- Assumes nothing.
+use Rattle.std.specs.Prelude.{Option, Some, None, Result, Ok, Err}
 use Prim.Native.Nat.{ℕ, ◌<◌, ◌≤◌}
 use mathlib.Core.Path.{◌≡◌, refl, ap}
 use mathlib.Core.Bool.{Bool, true, false, cond, not, false≢true}
@@ -30,16 +31,12 @@ use Rattle.calls.specs.declared.types.GuestOutcome.{GuestOutcome}
 use Rattle.calls.specs.declared.types.ClearStage.{ClearStage}
 use Rattle.calls.specs.declared.types.ClearStage.TheVariants as clear_stage
 use Rattle.calls.specs.declared.types.ClearCall.{ClearCall}
-use Rattle.calls.specs.declared.records.Lookup.{Lookup}
-use Rattle.calls.specs.declared.records.Lookup.TheVariants.{Found, Missing}
 use Rattle.calls.specs.declared.hypervisor.stage.View.{View}
 use Rattle.calls.specs.declared.hypervisor.stage.Move.{Move}
 use Rattle.calls.specs.declared.guest.GuestMove.{GuestMove}
 use Rattle.calls.specs.declared.clear_mask.ClearMove.{ClearMove}
-use Rattle.calls.specs.declared.hypervisor.start.Acceptance.{Acceptance}
-use Rattle.calls.specs.declared.hypervisor.start.Acceptance.TheVariants as acceptance
-use Rattle.calls.specs.declared.hypervisor.start.Begin.{Begin}
-use Rattle.calls.specs.declared.hypervisor.start.Begin.TheVariants as begin
+use Rattle.calls.specs.declared.hypervisor.start.Begun.{Begun}
+use Rattle.calls.specs.declared.hypervisor.start.Begun.TheVariants as begin
 use Rattle.calls.specs.Answers.{code_of}
 use Rattle.calls.specs.Records.{is_port, is_free, guest_call_at, guest_idle, is_clearing}
 use Rattle.calls.specs.Hypervisor.{accept_init, accept_expand, due, staged, staged_at, reply_first, reply_first_of, reply_r1, reply_u1, reply_bind, reply_close, reply_r2, reply_r3, after_first_cas, after_later_cas, reply_r4, reply_set_busy, reply_clear_busy, reply_r5, reply_r6}
@@ -93,11 +90,11 @@ alone_if : (r : List ℕ) (b : Bool) (x y : Wrote) → KeptAlone r x → KeptAlo
 alone_if r true x y a b = a
 alone_if r false x y a b = b
 
-start_keeps : (n : ℕ) (r t : List ℕ) (p : Port) (b : Begin) → Kept 1 r t (start_bytes n r t p b)
+start_keeps : (n : ℕ) (r t : List ℕ) (p : Port) (b : Result Begun Answer) → Kept 1 r t (start_bytes n r t p b)
 unfolding start_bytes encoded_answer code_of
-start_keeps n r t p (begin.Refused a) l h = refl
-start_keeps n r t p (begin.Begun c) l h = absurd (omega (arith, next_code n (put_call r c) c Done 0 h))
-start_keeps n r t p (begin.Settled e) l h = absurd (omega arith)
+start_keeps n r t p (Err a) l h = refl
+start_keeps n r t p (Ok (begin.UnderWay c)) l h = absurd (omega (arith, next_code n (put_call r c) c Done 0 h))
+start_keeps n r t p (Ok (begin.Settled e)) l h = absurd (omega arith)
 
 port_keeps : (n : ℕ) (starts : Starts) (p : Port) (r t : List ℕ) → Kept 1 r t (on_port n starts r t p)
 unfolding on_port
@@ -105,15 +102,15 @@ port_keeps n starts p r t =
     let b = starts (owner_at r) (given_at r) (pages_at r) p (entry_in t p.0) in
     kept_if 1 r t (ltb (length r) domain_size) (carried too_short r t) (start_bytes n r t p b) (λ l h. refl) (start_keeps n r t p b)
 
-init_keeps : (n : ℕ) (r : List ℕ) (a : Acceptance) → KeptAlone r (init_bytes_of n r a)
+init_keeps : (n : ℕ) (r : List ℕ) (a : Result Unit Answer) → KeptAlone r (init_bytes_of n r a)
 unfolding encoded_answer code_of
-init_keeps n r (acceptance.Refused a) l h = refl
-init_keeps n r acceptance.Accepted l h = absurd (omega arith)
+init_keeps n r (Err a) l h = refl
+init_keeps n r (Ok tt) l h = absurd (omega arith)
 
-expand_keeps : (r : List ℕ) (a : Acceptance) → KeptAlone r (expand_bytes_of r a)
+expand_keeps : (r : List ℕ) (a : Result Unit Answer) → KeptAlone r (expand_bytes_of r a)
 unfolding encoded_answer code_of
-expand_keeps r (acceptance.Refused a) l h = refl
-expand_keeps r acceptance.Accepted l h = absurd (omega arith)
+expand_keeps r (Err a) l h = refl
+expand_keeps r (Ok tt) l h = absurd (omega arith)
 
 -- ---- the reply: what a stage answers is at most 7
 
@@ -154,10 +151,10 @@ low_staged : (c : Call) (e : ℕ) (v : View) (seen : ℕ) → is_free c.owner �
 unfolding Low staged
 low_staged c e v seen f = low_at c.stage c e v seen f
 
-found_keeps : (n : ℕ) (r t : List ℕ) (seen : ℕ) (f : Lookup) → is_free (call_at r).owner ≡ false → Kept 8 r t (reply_found_bytes n r t seen f)
+found_keeps : (n : ℕ) (r t : List ℕ) (seen : ℕ) (f : Option ℕ) → is_free (call_at r).owner ≡ false → Kept 8 r t (reply_found_bytes n r t seen f)
 unfolding move_bytes
-found_keeps n r t seen Missing e l h = refl
-found_keeps n r t seen (Found x) e l h =
+found_keeps n r t seen None e l h = refl
+found_keeps n r t seen (Some x) e l h =
     let m = move_at r x seen in
     absurd (omega (arith, next_code n (put_move r m) m.call m.answer m.count h, low_staged (call_at r) x (view_at r x) seen e))
 

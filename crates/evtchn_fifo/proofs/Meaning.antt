@@ -1,5 +1,6 @@
 -- The hypervisor's calls on bytes are the calls on the record and the ledger that the bytes are.
 -- Assumes nothing.
+use Rattle.std.specs.Prelude.{None, Option, Some, Result, Ok, Err}
 use Prim.Native.Nat.{ℕ, ◌<◌, ◌≤◌}
 use mathlib.Core.Path.{◌≡◌, refl, sym, ap, ◌∙◌}
 use mathlib.Core.Bool.{Bool, true, false, cond, not}
@@ -15,23 +16,18 @@ use Rattle.word.specs.Effect.{cas_taken}
 use Rattle.word.specs.Ready.{is_ready}
 use Rattle.word.specs.Word.{has, port_at, queue_at}
 use Rattle.word.specs.Entry.{priority, bound, priority_at, fresh_entry}
+use Rattle.calls.specs.declared.types.Answer.{Answer}
 use Rattle.calls.specs.declared.types.Domain.{Domain}
 use Rattle.calls.specs.declared.types.Call.{Call}
 use Rattle.calls.specs.declared.types.Owner.{Owner}
 use Rattle.calls.specs.declared.types.Owner.TheVariants as owner
 use Rattle.calls.specs.declared.types.Stage.{Stage}
 use Rattle.calls.specs.declared.types.Stage.TheVariants.{First, R2, R3, R4, SetBusy, ClearBusy, R5, R6}
-use Rattle.calls.specs.declared.hypervisor.start.PortAcceptance.{PortAcceptance}
-use Rattle.calls.specs.declared.hypervisor.start.PortAcceptance.TheVariants as port_acceptance
 use Rattle.calls.specs.declared.types.Answer.TheVariants.{Done, NoCall}
-use Rattle.calls.specs.declared.records.Lookup.{Lookup}
-use Rattle.calls.specs.declared.records.Lookup.TheVariants.{Found, Missing}
 use Rattle.calls.specs.declared.hypervisor.stage.View.{View}
 use Rattle.calls.specs.declared.hypervisor.stage.Move.{Move}
-use Rattle.calls.specs.declared.hypervisor.start.Acceptance.{Acceptance}
-use Rattle.calls.specs.declared.hypervisor.start.Acceptance.TheVariants as acceptance
-use Rattle.calls.specs.declared.hypervisor.start.Begin.{Begin}
-use Rattle.calls.specs.declared.hypervisor.start.Begin.TheVariants as begin
+use Rattle.calls.specs.declared.hypervisor.start.Begun.{Begun}
+use Rattle.calls.specs.declared.hypervisor.start.Begun.TheVariants as begin
 use Rattle.calls.specs.Records.{is_free, idle_call, with_call, entry_at, in_array, one_more, fresh_domain}
 use Rattle.calls.specs.Hypervisor.{started, init_control, init_control_of, expand_array, expand_array_of, accept_init, accept_expand, bind_start, close_start, set_priority, raise_start, unmask_start, reply_of, reply_found, due_of, staged, staged_at, view_of, carried_out, accept_port, bind_entry, close_entry, priority_entry, link_entry, begin_bind, begin_close, begin_priority, begin_link, reply_first, reply_first_of, reply_bind, reply_close, reply_r1, reply_u1, after_r2, reply_r2, reply_r3, after_first_cas, after_later_cas, reply_r4, reply_set_busy, reply_clear_busy, reply_r5, reply_r6}
 use Rattle.evtchn_fifo.specs.Hypervisor as port_call
@@ -53,18 +49,18 @@ too_few r h = lt-ltb (length r) domain_size h
 -- ---- the calls on a port
 
 -- a call that is under way has an owner
-Busy : Begin → Type 0
-Busy (begin.Refused a) = ◌≡◌ {A = ℕ} 0 0
-Busy (begin.Begun c) = or_idle c ≡ c
-Busy (begin.Settled e) = ◌≡◌ {A = ℕ} 0 0
+Busy : Result Begun Answer → Type 0
+Busy (Err a) = ◌≡◌ {A = ℕ} 0 0
+Busy (Ok (begin.UnderWay c)) = or_idle c ≡ c
+Busy (Ok (begin.Settled e)) = ◌≡◌ {A = ℕ} 0 0
 
-start_means : (n : ℕ) (r t : List ℕ) (p : Port) (b : Begin) → Busy b → domain_size ≤ length r → meant (start_bytes n r t p b) ≡ told (started n (domain_at r) (ledger_at t) p b)
+start_means : (n : ℕ) (r t : List ℕ) (p : Port) (b : Result Begun Answer) → Busy b → domain_size ≤ length r → meant (start_bytes n r t p b) ≡ told (started n (domain_at r) (ledger_at t) p b)
 unfolding start_bytes started encoded_next Busy
-start_means n r t p (begin.Refused a) i h = refl
-start_means n r t p (begin.Begun c) i h = rw (next_call n r c Done 0, domain_call r c (le-leb domain_size (length r) h), i)
-start_means n r t p (begin.Settled e) i h = rw (put_is t p.0 e)
+start_means n r t p (Err a) i h = refl
+start_means n r t p (Ok (begin.UnderWay c)) i h = rw (next_call n r c Done 0, domain_call r c (le-leb domain_size (length r) h), i)
+start_means n r t p (Ok (begin.Settled e)) i h = rw (put_is t p.0 e)
 
-abbrev begins : Starts → Domain → List ℕ → Port → Begin
+abbrev begins : Starts → Domain → List ℕ → Port → Result Begun Answer
 begins starts d l p = starts d.call.owner d.given d.pages p (entry_at l p.0)
 
 the_owner : (r : List ℕ) → (call_at r).owner ≡ owner_at r
@@ -75,7 +71,7 @@ begins_is : (starts : Starts) (r t : List ℕ) (p : Port) → starts (owner_at r
 unfolding domain_at
 begins_is starts r t p = rw (entry_is t p.0, or_owner (call_at r), the_owner r)
 
-on_port_lem : (n : ℕ) (starts : Starts) (p : Port) → ((o : Owner) (given : Bool) (pages : ℕ) (f : Lookup) → Busy (starts o given pages p f)) → IsCall (λ r t. on_port n starts r t p) (λ d l. started n d l p (begins starts d l p))
+on_port_lem : (n : ℕ) (starts : Starts) (p : Port) → ((o : Owner) (given : Bool) (pages : ℕ) (f : Option ℕ) → Busy (starts o given pages p f)) → IsCall (λ r t. on_port n starts r t p) (λ d l. started n d l p (begins starts d l p))
 unfolding on_port
 on_port_lem n starts p busy = record {
   means = λ r t h. rw (enough r h, begins_is starts r t p) (start_means n r t p (begins starts (domain_at r) (ledger_at t) p) (busy (domain_at r).call.owner (domain_at r).given (domain_at r).pages (entry_at (ledger_at t) p.0)) h);
@@ -84,31 +80,31 @@ on_port_lem n starts p busy = record {
 
 -- ---- the reply
 
-busy_if : (b : Bool) (x y : Begin) → Busy x → Busy y → Busy (cond b x y)
+busy_if : (b : Bool) (x y : Result Begun Answer) → Busy x → Busy y → Busy (cond b x y)
 busy_if true x y a b = a
 busy_if false x y a b = b
 
-bind_busy : (pages : ℕ) (p : Port) (a : PortAcceptance) → Busy (bind_entry pages p a)
+bind_busy : (pages : ℕ) (p : Port) (a : Result ℕ Answer) → Busy (bind_entry pages p a)
 unfolding Busy or_idle is_free
-bind_busy pages p (port_acceptance.Refused a) = refl
-bind_busy pages p (port_acceptance.Entry e) = busy_if (bound e) _ _ refl (busy_if (in_array pages p.0) _ _ refl refl)
+bind_busy pages p (Err a) = refl
+bind_busy pages p (Ok e) = busy_if (bound e) _ _ refl (busy_if (in_array pages p.0) _ _ refl refl)
 
-close_busy : (pages : ℕ) (p : Port) (a : PortAcceptance) → Busy (close_entry pages p a)
+close_busy : (pages : ℕ) (p : Port) (a : Result ℕ Answer) → Busy (close_entry pages p a)
 unfolding Busy or_idle is_free
-close_busy pages p (port_acceptance.Refused a) = refl
-close_busy pages p (port_acceptance.Entry e) = busy_if (not (bound e)) _ _ refl (busy_if (in_array pages p.0) _ _ refl refl)
+close_busy pages p (Err a) = refl
+close_busy pages p (Ok e) = busy_if (not (bound e)) _ _ refl (busy_if (in_array pages p.0) _ _ refl refl)
 
-priority_busy : (level : Priority) (a : PortAcceptance) → Busy (priority_entry level a)
+priority_busy : (level : Priority) (a : Result ℕ Answer) → Busy (priority_entry level a)
 unfolding Busy
-priority_busy level (port_acceptance.Refused a) = refl
-priority_busy level (port_acceptance.Entry e) = busy_if (ltb 15 level.0) _ _ refl refl
+priority_busy level (Err a) = refl
+priority_busy level (Ok e) = busy_if (ltb 15 level.0) _ _ refl refl
 
-link_busy : (o : Owner) (pages : ℕ) (p : Port) (a : PortAcceptance) → is_free o ≡ false → Busy (link_entry o pages p a)
+link_busy : (o : Owner) (pages : ℕ) (p : Port) (a : Result ℕ Answer) → is_free o ≡ false → Busy (link_entry o pages p a)
 unfolding Busy
-link_busy o pages p (port_acceptance.Refused a) f = refl
-link_busy o pages p (port_acceptance.Entry e) f = busy_if (not (bound e)) _ _ refl (busy_if (not (in_array pages p.0)) _ _ refl (or_busy _ f))
+link_busy o pages p (Err a) f = refl
+link_busy o pages p (Ok e) f = busy_if (not (bound e)) _ _ refl (busy_if (not (in_array pages p.0)) _ _ refl (or_busy _ f))
 
-starts_busy : (n : ℕ) (call : PortCall) (p : Port) (o : Owner) (given : Bool) (pages : ℕ) (f : Lookup) → Busy (starts_of n call o given pages p f)
+starts_busy : (n : ℕ) (call : PortCall) (p : Port) (o : Owner) (given : Bool) (pages : ℕ) (f : Option ℕ) → Busy (starts_of n call o given pages p f)
 unfolding begin_bind begin_close begin_priority begin_link is_free
 starts_busy n port_call.Bind p o given pages f = bind_busy pages p (accept_port n o given p f)
 starts_busy n port_call.Close p o given pages f = close_busy pages p (accept_port n o given p f)
@@ -180,10 +176,10 @@ unfolding move_bytes
 carried_means n r t m i h =
     rw (next_move n r m (le-leb domain_size (length r) h), domain_move r m (le-leb domain_size (length r) h) i, put_is t (domain_at r).call.port.0 m.entry)
 
-moved_means : (n : ℕ) (r t : List ℕ) (seen : ℕ) (l : Lookup) → is_free (call_at r).owner ≡ false → domain_size ≤ length r → meant (reply_found_bytes n r t seen l) ≡ told (reply_found n (domain_at r) (ledger_at t) seen l)
+moved_means : (n : ℕ) (r t : List ℕ) (seen : ℕ) (l : Option ℕ) → is_free (call_at r).owner ≡ false → domain_size ≤ length r → meant (reply_found_bytes n r t seen l) ≡ told (reply_found n (domain_at r) (ledger_at t) seen l)
 unfolding encoded_next
-moved_means n r t seen Missing f h = refl
-moved_means n r t seen (Found e) f h =
+moved_means n r t seen None f h = refl
+moved_means n r t seen (Some e) f h =
     let c = (domain_at r).call in
     let f' : is_free c.owner ≡ false = rw (the_call r f) f in
     ap (λ (x : Call). meant (moved_bytes n r t x.port.0 (staged x e (view_at r e) seen))) (sym (the_call r f)) ∙ ap (λ (v : View). meant (moved_bytes n r t c.port.0 (staged c e v seen))) (view_is r e) ∙ carried_means n r t (staged c e (view_of (domain_at r) e) seen) (staged_whole c e (view_of (domain_at r) e) seen f') h
@@ -215,10 +211,10 @@ the_pages : (r : List ℕ) → (domain_at r).pages ≡ pages_at r
 unfolding domain_at
 the_pages r = refl
 
-init_of : (n : ℕ) (r : List ℕ) (a : Acceptance) → domain_size ≤ length r → meant_alone (init_bytes_of n r a) ≡ told_alone (init_control_of n (domain_at r) a)
+init_of : (n : ℕ) (r : List ℕ) (a : Result Unit Answer) → domain_size ≤ length r → meant_alone (init_bytes_of n r a) ≡ told_alone (init_control_of n (domain_at r) a)
 unfolding encoded_next
-init_of n r (acceptance.Refused a) h = refl
-init_of n r acceptance.Accepted h = rw (domain_given r (le-leb domain_size (length r) h))
+init_of n r (Err a) h = refl
+init_of n r (Ok tt) h = rw (domain_given r (le-leb domain_size (length r) h))
 
 init_means : (n vcpu frame frames offset : ℕ) → IsCallAlone (λ r. init_bytes n r vcpu frame frames offset) (λ d. init_control n d (narrow vcpu) frame frames (narrow offset))
 unfolding init_bytes init_control
@@ -229,14 +225,14 @@ init_means n vcpu frame frames offset = record {
 
 expanded : (r : List ℕ) → ◌≡◌ {A = MeantAlone}
     (record { next = encoded_answer Done 0; domain = record { given = (domain_at r).given; pages = one_more (pages_at r); tails = (domain_at r).tails; call = (domain_at r).call } })
-    (told_alone (expand_array_of (domain_at r) acceptance.Accepted))
+    (told_alone (expand_array_of (domain_at r) (Ok tt)))
 unfolding domain_at encoded_next
 expanded r = refl
 
-expand_of_lem : (r : List ℕ) (a : Acceptance) → domain_size ≤ length r → meant_alone (expand_bytes_of r a) ≡ told_alone (expand_array_of (domain_at r) a)
+expand_of_lem : (r : List ℕ) (a : Result Unit Answer) → domain_size ≤ length r → meant_alone (expand_bytes_of r a) ≡ told_alone (expand_array_of (domain_at r) a)
 unfolding encoded_next
-expand_of_lem r (acceptance.Refused a) h = refl
-expand_of_lem r acceptance.Accepted h = rw (domain_pages r (one_more (pages_at r)) (le-leb domain_size (length r) h)) (expanded r)
+expand_of_lem r (Err a) h = refl
+expand_of_lem r (Ok tt) h = rw (domain_pages r (one_more (pages_at r)) (le-leb domain_size (length r) h)) (expanded r)
 
 expand_means : (n frame frames : ℕ) → IsCallAlone (λ r. expand_bytes n r frame frames) (λ d. expand_array n d frame frames)
 unfolding expand_bytes expand_array

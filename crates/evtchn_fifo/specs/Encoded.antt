@@ -1,6 +1,6 @@
 -- What a call or a reply comes to, as C has it: four numbers of 32 bits, which the compiled code returns as two of 64.
 -- Assumes nothing.
-use Rattle.std.specs.Prelude.{ℕ, ◌+◌, ◌/◌, ◌%◌, List}
+use Rattle.std.specs.Prelude.{Result, Ok, Err, ℕ, ◌+◌, ◌/◌, ◌%◌, List}
 use Rattle.calls.specs.Answers.{code_of}
 use Rattle.calls.specs.declared.types.Place.{Place}
 use Rattle.calls.specs.declared.types.Place.TheVariants.{Word, Ready, Head}
@@ -9,8 +9,8 @@ use Rattle.calls.specs.declared.types.Access.TheVariants.{Read, Store, Or, And, 
 use Rattle.calls.specs.declared.types.Answer.{Answer}
 use Rattle.calls.specs.declared.types.Next.{Next}
 use Rattle.calls.specs.declared.types.Next.TheVariants as next
-use Rattle.calls.specs.declared.types.Masking.{Masking}
-use Rattle.calls.specs.declared.types.Masking.TheVariants as masking
+use Rattle.calls.specs.declared.types.Made.{Made}
+use Rattle.calls.specs.declared.types.Refused.{Refused}
 use Rattle.evtchn_fifo.specs.declared.encoded.PackedNext.{PackedNext}
 
 pub record EncodedNext : Type 0 where
@@ -61,9 +61,9 @@ encoded_next (next.Access a) = encoded_access a
 encoded_next (next.Answer a count) = encoded_answer a count
 
 -- a mask's access says its answer 0 and count 1
-unfoldable pub encoded_masking : Masking → EncodedNext
-encoded_masking (masking.Made access a count) = encoded_access access
-encoded_masking (masking.Refused a count) = encoded_answer a count
+unfoldable pub encoded_masking : Result Made Refused → EncodedNext
+encoded_masking (Ok y) = encoded_access y.access
+encoded_masking (Err r) = encoded_answer r.answer r.count
 
 -- ---- what C has after a call
 

@@ -1,7 +1,7 @@
 -- The hypervisor's calls and its reply on bytes: r is a domain's record, t its ledger, n the number of link bits. Where r is
 -- too short, or document 01 refuses, both stay byte for byte.
 -- Assumes nothing.
-use Rattle.std.specs.Prelude.{ℕ, Bool, cond, List, length, ltb}
+use Rattle.std.specs.Prelude.{None, Option, Some, Result, Ok, Err, ℕ, Bool, cond, List, length, ltb}
 use Rattle.word.specs.declared.Port.{Port}
 use Rattle.word.specs.Word.{port_at}
 use Rattle.word.specs.declared.Priority.{Priority}
@@ -11,13 +11,9 @@ use Rattle.calls.specs.declared.types.Answer.TheVariants.{Done, LinkBits, NoEntr
 use Rattle.calls.specs.declared.types.Owner.{Owner}
 use Rattle.calls.specs.declared.types.Owner.TheVariants as owner
 use Rattle.calls.specs.declared.types.Call.{Call}
-use Rattle.calls.specs.declared.records.Lookup.{Lookup}
-use Rattle.calls.specs.declared.records.Lookup.TheVariants.{Found, Missing}
 use Rattle.calls.specs.declared.hypervisor.stage.Move.{Move}
-use Rattle.calls.specs.declared.hypervisor.start.Acceptance.{Acceptance}
-use Rattle.calls.specs.declared.hypervisor.start.Acceptance.TheVariants as acceptance
-use Rattle.calls.specs.declared.hypervisor.start.Begin.{Begin}
-use Rattle.calls.specs.declared.hypervisor.start.Begin.TheVariants as begin
+use Rattle.calls.specs.declared.hypervisor.start.Begun.{Begun}
+use Rattle.calls.specs.declared.hypervisor.start.Begun.TheVariants as begin
 use Rattle.calls.specs.Records.{is_free, one_more, fresh_domain}
 use Rattle.calls.specs.Hypervisor.{accept_init, accept_expand, begin_bind, begin_close, begin_priority, begin_link, staged, due}
 use Rattle.evtchn_fifo.specs.Numbers.{put_number, narrow}
@@ -33,18 +29,18 @@ next_at n r c a count =
 
 -- ---- init_control and expand_array
 
-abbrev pub init_bytes_of : ℕ → List ℕ → Acceptance → Wrote
-init_bytes_of n r (acceptance.Refused a) = wrote (encoded_answer a 0) r
-init_bytes_of n r acceptance.Accepted = wrote (encoded_answer (LinkBits n) 0) (put_number 3 r 0 1)
+abbrev pub init_bytes_of : ℕ → List ℕ → Result Unit Answer → Wrote
+init_bytes_of n r (Err a) = wrote (encoded_answer a 0) r
+init_bytes_of n r (Ok tt) = wrote (encoded_answer (LinkBits n) 0) (put_number 3 r 0 1)
 
 unfoldable pub init_bytes : ℕ → List ℕ → ℕ → ℕ → ℕ → ℕ → Wrote
 init_bytes n r vcpu frame frames offset =
     cond (ltb (length r) domain_size) (wrote too_short r)
     (init_bytes_of n r (accept_init (owner_at r) (given_at r) (narrow vcpu) frame frames (narrow offset)))
 
-abbrev pub expand_bytes_of : List ℕ → Acceptance → Wrote
-expand_bytes_of r (acceptance.Refused a) = wrote (encoded_answer a 0) r
-expand_bytes_of r acceptance.Accepted = wrote (encoded_answer Done 0) (put_number 3 r 4 (one_more (pages_at r)))
+abbrev pub expand_bytes_of : List ℕ → Result Unit Answer → Wrote
+expand_bytes_of r (Err a) = wrote (encoded_answer a 0) r
+expand_bytes_of r (Ok tt) = wrote (encoded_answer Done 0) (put_number 3 r 4 (one_more (pages_at r)))
 
 unfoldable pub expand_bytes : ℕ → List ℕ → ℕ → ℕ → Wrote
 expand_bytes n r frame frames =
@@ -54,14 +50,14 @@ expand_bytes n r frame frames =
 -- ---- the calls on a port
 
 -- what the start of a call on port p comes to
-unfoldable pub start_bytes : ℕ → List ℕ → List ℕ → Port → Begin → Carried
-start_bytes n r t p (begin.Refused a) = carried (encoded_answer a 0) r t
-start_bytes n r t p (begin.Begun c) = carried (next_at n (put_call r c) c Done 0) (put_call r c) t
-start_bytes n r t p (begin.Settled e) = carried (encoded_answer Done 0) r (put_entry t p.0 e)
+unfoldable pub start_bytes : ℕ → List ℕ → List ℕ → Port → Result Begun Answer → Carried
+start_bytes n r t p (Err a) = carried (encoded_answer a 0) r t
+start_bytes n r t p (Ok (begin.UnderWay c)) = carried (next_at n (put_call r c) c Done 0) (put_call r c) t
+start_bytes n r t p (Ok (begin.Settled e)) = carried (encoded_answer Done 0) r (put_entry t p.0 e)
 
 -- how a call starts, by the owner of the call under way, given, pages, the port and its entry
 abbrev pub Starts : Type 0
-Starts = Owner → Bool → ℕ → Port → Lookup → Begin
+Starts = Owner → Bool → ℕ → Port → Option ℕ → Result Begun Answer
 
 -- a call on a port
 pub data PortCall : Type 0 where
@@ -109,9 +105,9 @@ move_bytes n r m = wrote (next_at n (put_move r m) m.call m.answer m.count) (put
 abbrev pub moved_bytes : ℕ → List ℕ → List ℕ → ℕ → Move → Carried
 moved_bytes n r t p m = carried (move_bytes n r m).next (move_bytes n r m).record_bytes (put_entry t p m.entry)
 
-abbrev pub reply_found_bytes : ℕ → List ℕ → List ℕ → ℕ → Lookup → Carried
-reply_found_bytes n r t seen Missing = carried (encoded_answer NoEntry 0) r t
-reply_found_bytes n r t seen (Found e) = moved_bytes n r t (call_at r).port.0 (move_at r e seen)
+abbrev pub reply_found_bytes : ℕ → List ℕ → List ℕ → ℕ → Option ℕ → Carried
+reply_found_bytes n r t seen None = carried (encoded_answer NoEntry 0) r t
+reply_found_bytes n r t seen (Some e) = moved_bytes n r t (call_at r).port.0 (move_at r e seen)
 
 unfoldable pub reply_bytes : ℕ → List ℕ → List ℕ → ℕ → Carried
 reply_bytes n r t seen =

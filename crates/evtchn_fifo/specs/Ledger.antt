@@ -1,8 +1,6 @@
 -- The ledger in bytes: an entry of two bytes a port. A last odd byte is no entry.
 -- Assumes nothing.
-use Rattle.std.specs.Prelude.{ℕ, zero, suc, ◌*◌, ◌/◌, cond, List, length, ltb}
-use Rattle.calls.specs.declared.records.Lookup.{Lookup}
-use Rattle.calls.specs.declared.records.Lookup.TheVariants.{Found, Missing}
+use Rattle.std.specs.Prelude.{Some, None, Option, ℕ, zero, suc, ◌*◌, ◌/◌, cond, List, length, ltb}
 use Rattle.word.specs.Entry.{fresh_entry}
 use Rattle.evtchn_fifo.specs.Encoded.{Freshened, freshened}
 use Rattle.evtchn_fifo.specs.Numbers.{number_at, put_number, numbers_at}
@@ -14,8 +12,8 @@ entries t = length t / 2
 abbrev pub ledger_at : List ℕ → List ℕ
 ledger_at t = numbers_at 1 t 0 (entries t)
 
-unfoldable pub entry_in : List ℕ → ℕ → Lookup
-entry_in t p = cond (ltb p (entries t)) (Found (number_at 1 t (p * 2))) Missing
+unfoldable pub entry_in : List ℕ → ℕ → Option ℕ
+entry_in t p = cond (ltb p (entries t)) (Some (number_at 1 t (p * 2))) None
 
 unfoldable pub put_entry : List ℕ → ℕ → ℕ → List ℕ
 put_entry t p e = cond (ltb p (entries t)) (put_number 1 t (p * 2) e) t

@@ -2,7 +2,8 @@
 ghost use Rattle.std.specs.Prelude.{◌≡◌, ◌≤◌, ◌/◌, ◌%◌};
 ghost use Rattle.evtchn_fifo.specs.Encoded.{unpacked, encoded, place_code, place_index, encoded_place, encoded_access, encoded_answer, encoded_masking, too_short};
 
-use calls::types::{Access, Answer, Masking, Place};
+use calls::answer::Code;
+use calls::types::{Access, Answer, Made, Place, Refused};
 
 // C's four numbers of 32 bits, code, index, value and old, in two of 64, the first of each pair in the lower half: the calling
 // convention returns both structs in the same two registers, and this one takes fewer instructions to fill.
@@ -39,7 +40,7 @@ pub fn too_short() -> PackedNext
 pub fn encoded_answer(answer: Answer, count: u32) -> PackedNext
     ensures { unpacked result ≡ encoded_answer answer count }
 {
-    let code = calls::answer::code_of(answer);
+    let code = Code::from(answer);
     packed(code.number, code.value, count, 0)
 }
 
@@ -86,11 +87,11 @@ pub fn encoded_access(access: Access) -> PackedNext
 }
 
 // A mask's access says its answer 0 and count 1.
-pub fn encoded_masking(masking: Masking) -> PackedNext
+pub fn encoded_masking(masking: Result<Made, Refused>) -> PackedNext
     ensures { unpacked result ≡ encoded_masking masking }
 {
     match masking {
-        Masking::Made(access, _, _) => encoded_access(access),
-        Masking::Refused(answer, count) => encoded_answer(answer, count),
+        Ok(made) => encoded_access(made.access),
+        Err(refused) => encoded_answer(refused.answer, refused.count),
     }
 }

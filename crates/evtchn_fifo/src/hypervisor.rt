@@ -14,7 +14,6 @@ ghost use Rattle.evtchn_fifo.specs.InPlace.{link_bytes};
 
 use crate::encoded::PackedNext;
 use crate::{domain_record, encoded, layout, ledger, numbers, replies};
-use calls::hypervisor::start::{Acceptance, PortAcceptance};
 use calls::hypervisor::{stage, start};
 use calls::records;
 use calls::types::{Answer, Call, Owner, Stage};
@@ -66,8 +65,8 @@ pub fn evtchn_fifo_bytes_init_control(
     let owner = domain_record::owner_at(domain);
     let given = domain_record::given_at(domain);
     match start::accept_init(owner, given, vcpu_number, frame, frames, offset_number) {
-        Acceptance::Refused(answer) => encoded::encoded_answer(answer, 0),
-        Acceptance::Accepted => {
+        Err(answer) => encoded::encoded_answer(answer, 0),
+        Ok(()) => {
             numbers::put_u32(domain, layout::GIVEN, 1);
             let bits = word::event::link_bits();
             encoded::encoded_answer(Answer::LinkBits(bits), 0)
@@ -86,8 +85,8 @@ pub fn evtchn_fifo_bytes_expand_array(domain: &mut [u8], frame: u64, frames: u64
     let given = domain_record::given_at(domain);
     let pages = numbers::u32_at(domain, layout::PAGES);
     match start::accept_expand(owner, given, pages, frame, frames) {
-        Acceptance::Refused(answer) => encoded::encoded_answer(answer, 0),
-        Acceptance::Accepted => {
+        Err(answer) => encoded::encoded_answer(answer, 0),
+        Ok(()) => {
             let more = records::one_more(pages);
             numbers::put_u32(domain, layout::PAGES, more);
             encoded::encoded_answer(Answer::Done, 0)
@@ -96,28 +95,28 @@ pub fn evtchn_fifo_bytes_expand_array(domain: &mut [u8], frame: u64, frames: u64
 }
 
 // The entry of a port that gets past 15, 10, 3 and 14, each tested in its turn.
-fn accepted(domain: &[u8], ledger: &[u8], port: Port) -> PortAcceptance
+fn accepted(domain: &[u8], ledger: &[u8], port: Port) -> Result<u16, Answer>
     requires { domain_size ≤ length domain.now }
     ensures { result ≡ accept_port link_bits (owner_at domain.now) (given_at domain.now) port (entry_in ledger.now port.0) }
 {
     let busy = domain_record::is_under_way(domain);
     if busy {
-        return PortAcceptance::Refused(Answer::CallUnderWay);
+        return Err(Answer::CallUnderWay);
     }
     let ungiven = !domain_record::given_at(domain);
     if ungiven {
-        return PortAcceptance::Refused(Answer::NotGiven);
+        return Err(Answer::NotGiven);
     }
     let bad = !records::is_port(port);
     if bad {
-        return PortAcceptance::Refused(Answer::BadPort);
+        return Err(Answer::BadPort);
     }
     let missing = !ledger::has_entry(ledger, port);
     if missing {
-        return PortAcceptance::Refused(Answer::NoEntry);
+        return Err(Answer::NoEntry);
     }
     let entry = ledger::entry_of(ledger, port);
-    PortAcceptance::Entry(entry)
+    Ok(entry)
 }
 
 // The call is under way, and its first access named.
@@ -156,8 +155,8 @@ pub fn evtchn_fifo_bytes_bind(domain: &mut [u8], ledger: &mut [u8], port: u64) -
     }
     let number = numbers::narrowed(port);
     match accepted(domain, ledger, Port(number)) {
-        PortAcceptance::Refused(answer) => encoded::encoded_answer(answer, 0),
-        PortAcceptance::Entry(entry) => {
+        Err(answer) => encoded::encoded_answer(answer, 0),
+        Ok(entry) => {
             let bound = word::entry::is_bound(entry);
             if bound {
                 return encoded::encoded_answer(Answer::AlreadyBound, 0);
@@ -181,8 +180,8 @@ pub fn evtchn_fifo_bytes_close(domain: &mut [u8], ledger: &mut [u8], port: u64) 
     }
     let number = numbers::narrowed(port);
     match accepted(domain, ledger, Port(number)) {
-        PortAcceptance::Refused(answer) => encoded::encoded_answer(answer, 0),
-        PortAcceptance::Entry(entry) => {
+        Err(answer) => encoded::encoded_answer(answer, 0),
+        Ok(entry) => {
             let unbound = !word::entry::is_bound(entry);
             if unbound {
                 return encoded::encoded_answer(Answer::NotBound, 0);
@@ -211,8 +210,8 @@ pub fn evtchn_fifo_bytes_set_priority(
     }
     let number = numbers::narrowed(port);
     match accepted(domain, ledger, Port(number)) {
-        PortAcceptance::Refused(answer) => encoded::encoded_answer(answer, 0),
-        PortAcceptance::Entry(entry) => {
+        Err(answer) => encoded::encoded_answer(answer, 0),
+        Ok(entry) => {
             let level = numbers::narrowed(priority);
             let above = 15 < level;
             if above {
@@ -235,8 +234,8 @@ fn link_call(domain: &mut [u8], ledger: &mut [u8], port: u64, owner: Owner) -> P
     }
     let number = numbers::narrowed(port);
     match accepted(domain, ledger, Port(number)) {
-        PortAcceptance::Refused(answer) => encoded::encoded_answer(answer, 0),
-        PortAcceptance::Entry(entry) => {
+        Err(answer) => encoded::encoded_answer(answer, 0),
+        Ok(entry) => {
             let unbound = !word::entry::is_bound(entry);
             if unbound {
                 return encoded::encoded_answer(Answer::NotBound, 0);

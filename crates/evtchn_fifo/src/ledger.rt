@@ -5,7 +5,6 @@ ghost use Rattle.evtchn_fifo.specs.Ledger.{entries, entry_in, put_entry, fresh_l
 ghost use Rattle.evtchn_fifo.specs.Encoded.{freshened};
 
 use crate::numbers;
-use calls::records::Lookup;
 use word::Port;
 
 pub(crate) fn has_entry(ledger: &[u8], port: Port) -> bool
@@ -24,15 +23,15 @@ pub(crate) fn entry_of(ledger: &[u8], port: Port) -> u16
     numbers::u16_at(ledger, p * 2)
 }
 
-pub fn entry_in(ledger: &[u8], port: Port) -> Lookup
+pub fn entry_in(ledger: &[u8], port: Port) -> Option<u16>
     ensures { result ≡ entry_in ledger.now port.0 }
 {
     let found = has_entry(ledger, port);
     if found {
         let entry = entry_of(ledger, port);
-        return Lookup::Found(entry);
+        return Some(entry);
     }
-    Lookup::Missing
+    None
 }
 
 // The ledger with another entry for a port; a port that it has no entry for changes nothing.

@@ -1,5 +1,6 @@
 -- Demands 1 and 3 and T-10 of bytes, from the theorems over records.
 -- Assumes nothing.
+use Rattle.std.specs.Prelude.{Result}
 use Prim.Native.Nat.{ℕ, zero, suc, ◌*◌, ◌≤◌}
 use mathlib.Core.Path.{◌≡◌, refl, sym, ap, subst, ◌∙◌}
 use mathlib.Core.Bool.{true, not}
@@ -15,7 +16,8 @@ use Rattle.calls.specs.declared.types.Place.TheVariants as place
 use Rattle.calls.specs.declared.types.Access.{Access}
 use Rattle.calls.specs.declared.types.Access.TheVariants.{Or}
 use Rattle.calls.specs.declared.types.Next.TheVariants as next
-use Rattle.calls.specs.declared.types.Masking.{Masking}
+use Rattle.calls.specs.declared.types.Made.{Made}
+use Rattle.calls.specs.declared.types.Refused.{Refused}
 use Rattle.calls.specs.declared.types.Guest.{Guest}
 use Rattle.calls.specs.Answers.{code_of}
 use Rattle.calls.specs.Records.{is_port}
@@ -145,7 +147,7 @@ module _ {n : ℕ} (wide : Width n) where
   some e = let l = wide.least in omega arith
 
   -- an access of a mask is the one made
-  abbrev NamesMade : ℕ → Masking → Type 0
+  abbrev NamesMade : ℕ → Result Made Refused → Type 0
   NamesMade words m = MaskInside words m → (x : Access) → decoded_next (encoded_masking m) ≡ next.Access x → Inside words (place_of x)
 
   names_made : (p : Port) (words : ℕ) → NamesMade words (mask_of n p words)

@@ -1,5 +1,6 @@
 -- Whatever a call or reply comes to is read back from its result: only init_control gives link bits, and these are not 0.
 -- Assumes nothing.
+use Rattle.std.specs.Prelude.{Option, Some, None, Result, Ok, Err}
 use Prim.Native.Nat.{ℕ}
 use mathlib.Core.Path.{◌≡◌, refl}
 use mathlib.Core.Bool.{Bool, not}
@@ -34,18 +35,12 @@ use Rattle.calls.specs.declared.types.ClearCall.{ClearCall}
 use Rattle.calls.specs.declared.types.GuestCall.{GuestCall}
 use Rattle.calls.specs.declared.types.Guest.{Guest}
 use Rattle.calls.specs.declared.types.GuestOutcome.{GuestOutcome}
-use Rattle.calls.specs.declared.records.Lookup.{Lookup}
-use Rattle.calls.specs.declared.records.Lookup.TheVariants.{Found, Missing}
 use Rattle.calls.specs.declared.hypervisor.stage.View.{View}
 use Rattle.calls.specs.declared.hypervisor.stage.Move.{Move}
 use Rattle.calls.specs.declared.guest.GuestMove.{GuestMove}
 use Rattle.calls.specs.declared.clear_mask.ClearMove.{ClearMove}
-use Rattle.calls.specs.declared.hypervisor.start.Acceptance.{Acceptance}
-use Rattle.calls.specs.declared.hypervisor.start.Acceptance.TheVariants as acceptance
-use Rattle.calls.specs.declared.hypervisor.start.PortAcceptance.{PortAcceptance}
-use Rattle.calls.specs.declared.hypervisor.start.PortAcceptance.TheVariants as port_acceptance
-use Rattle.calls.specs.declared.hypervisor.start.Begin.{Begin}
-use Rattle.calls.specs.declared.hypervisor.start.Begin.TheVariants as begin
+use Rattle.calls.specs.declared.hypervisor.start.Begun.{Begun}
+use Rattle.calls.specs.declared.hypervisor.start.Begun.TheVariants as begin
 use Rattle.calls.specs.Answers.{code_of}
 use Rattle.calls.specs.Records.{is_free, in_array, is_port, page_limit, entry_at, with_call, is_clearing}
 use Rattle.calls.specs.Hypervisor.{Turn, is_offset, accept_init, accept_expand, entry_or14, accept_port, bind_entry, begin_bind, close_entry, begin_close, priority_entry, begin_priority, link_entry, begin_link, reply_r1, reply_u1, reply_bind, reply_close, reply_first_of, reply_first, reply_r2, reply_r3, after_first_cas, after_later_cas, reply_r4, reply_set_busy, reply_clear_busy, reply_r5, reply_r6, staged_at, staged, due, next_of, due_of, init_control_of, init_control, expand_array_of, expand_array, started, bind_start, close_start, set_priority, raise_start, unmask_start, view_of, moved, reply_found, reply_of}
@@ -81,9 +76,9 @@ guest_next_back n g a count h = choose ReadsBack (not (is_serving g.call.stage))
 
 -- ---- init_control and expand_array
 
-data Accepts : Acceptance → Type 0 where
-  refuses : {a : Answer} → Plain a → Accepts (acceptance.Refused a)
-  accepts : Accepts acceptance.Accepted
+data Accepts : Result Unit Answer → Type 0 where
+  refuses : {a : Answer} → Plain a → Accepts (Err a)
+  accepts : Accepts (Ok tt)
 
 accepts_init : (o : Owner) (given : Bool) (vcpu frame frames offset : ℕ) → Accepts (accept_init o given vcpu frame frames offset)
 unfolding accept_init codes
@@ -102,33 +97,33 @@ accepts_expand n o given pages frame frames =
     (choose Accepts (leb (page_limit n) pages) (refuses (λ k. refl))
     (choose Accepts (leb frames frame) (refuses (λ k. refl)) accepts)))
 
-init_back : (n : ℕ) → n ≢ 0 → (d : Domain) {x : Acceptance} → Accepts x → ReadsBack (init_control_of n d x).next
+init_back : (n : ℕ) → n ≢ 0 → (d : Domain) {x : Result Unit Answer} → Accepts x → ReadsBack (init_control_of n d x).next
 unfolding encoded_next
 init_back n some d (refuses h) = h 0
 init_back n some d accepts = decodes_encoded.answer (LinkBits n) 0 (λ e. some (cc))
 
-expand_back : (d : Domain) {x : Acceptance} → Accepts x → ReadsBack (expand_array_of d x).next
+expand_back : (d : Domain) {x : Result Unit Answer} → Accepts x → ReadsBack (expand_array_of d x).next
 unfolding codes
 expand_back d (refuses h) = h 0
 expand_back d accepts = refl
 
 -- ---- the calls on a port
 
-data AcceptsPort : PortAcceptance → Type 0 where
-  refuses_port : {a : Answer} → Plain a → AcceptsPort (port_acceptance.Refused a)
-  accepts_port : {e : ℕ} → AcceptsPort (port_acceptance.Entry e)
+data AcceptsPort : Result ℕ Answer → Type 0 where
+  refuses_port : {a : Answer} → Plain a → AcceptsPort (Err a)
+  accepts_port : {e : ℕ} → AcceptsPort (Ok e)
 
-data Begins : Begin → Type 0 where
-  refuses_call : {a : Answer} → Plain a → Begins (begin.Refused a)
-  begins : {c : Call} → Begins (begin.Begun c)
-  settles : {e : ℕ} → Begins (begin.Settled e)
+data Begins : Result Begun Answer → Type 0 where
+  refuses_call : {a : Answer} → Plain a → Begins (Err a)
+  begins : {c : Call} → Begins (Ok (begin.UnderWay c))
+  settles : {e : ℕ} → Begins (Ok (begin.Settled e))
 
-entry_back : (found : Lookup) → AcceptsPort (entry_or14 found)
+entry_back : (found : Option ℕ) → AcceptsPort (entry_or14 found)
 unfolding codes
-entry_back Missing = refuses_port (λ k. refl)
-entry_back (Found e) = accepts_port
+entry_back None = refuses_port (λ k. refl)
+entry_back (Some e) = accepts_port
 
-accepts_port_lem : (n : ℕ) (o : Owner) (given : Bool) (p : Port) (found : Lookup) → AcceptsPort (accept_port n o given p found)
+accepts_port_lem : (n : ℕ) (o : Owner) (given : Bool) (p : Port) (found : Option ℕ) → AcceptsPort (accept_port n o given p found)
 unfolding accept_port codes
 accepts_port_lem n o given p found =
     choose AcceptsPort (not (is_free o)) (refuses_port (λ k. refl))
@@ -136,22 +131,22 @@ accepts_port_lem n o given p found =
     (choose AcceptsPort (not (is_port n p.0)) (refuses_port (λ k. refl)) (entry_back found)))
 
 module _ (pages : ℕ) (p : Port) where
-  begins_bind : {x : PortAcceptance} → AcceptsPort x → Begins (bind_entry pages p x)
+  begins_bind : {x : Result ℕ Answer} → AcceptsPort x → Begins (bind_entry pages p x)
   unfolding codes
   begins_bind (refuses_port h) = refuses_call h
   begins_bind (accepts_port {e}) = choose Begins (bound e) (refuses_call (λ k. refl)) (choose Begins (in_array pages p.0) begins settles)
 
-  begins_close : {x : PortAcceptance} → AcceptsPort x → Begins (close_entry pages p x)
+  begins_close : {x : Result ℕ Answer} → AcceptsPort x → Begins (close_entry pages p x)
   unfolding codes
   begins_close (refuses_port h) = refuses_call h
   begins_close (accepts_port {e}) = choose Begins (not (bound e)) (refuses_call (λ k. refl)) (choose Begins (in_array pages p.0) begins settles)
 
-  begins_link : (starts : Owner) {x : PortAcceptance} → AcceptsPort x → Begins (link_entry starts pages p x)
+  begins_link : (starts : Owner) {x : Result ℕ Answer} → AcceptsPort x → Begins (link_entry starts pages p x)
   unfolding codes
   begins_link starts (refuses_port h) = refuses_call h
   begins_link starts (accepts_port {e}) = choose Begins (not (bound e)) (refuses_call (λ k. refl)) (choose Begins (not (in_array pages p.0)) (refuses_call (λ k. refl)) begins)
 
-begins_priority : (r : Priority) {x : PortAcceptance} → AcceptsPort x → Begins (priority_entry r x)
+begins_priority : (r : Priority) {x : Result ℕ Answer} → AcceptsPort x → Begins (priority_entry r x)
 unfolding codes
 begins_priority r (refuses_port h) = refuses_call h
 begins_priority r accepts_port = choose Begins (ltb 15 r.0) (refuses_call (λ k. refl)) settles
@@ -160,7 +155,7 @@ done_back : Plain Done
 unfolding codes
 done_back count = refl
 
-started_back : (n : ℕ) (d : Domain) (ledger : List ℕ) (p : Port) {b : Begin} → Begins b → ReadsBack (started n d ledger p b).outcome.next
+started_back : (n : ℕ) (d : Domain) (ledger : List ℕ) (p : Port) {b : Result Begun Answer} → Begins b → ReadsBack (started n d ledger p b).outcome.next
 unfolding started
 started_back n d ledger p (refuses_call h) = h 0
 started_back n d ledger p (begins {c}) = next_back n (with_call d c) Done 0 done_back
@@ -197,10 +192,10 @@ staged_back ClearBusy c e v seen = choose Moves (has Linked c.word) (λ k. refl)
 staged_back R5 c e v seen = λ k. refl
 staged_back R6 c e v seen = choose Moves (is_ready c.queue.0 seen) (λ k. refl) (λ k. refl)
 
-found_back : (n : ℕ) (d : Domain) (ledger : List ℕ) (seen : ℕ) (f : Lookup) → ReadsBack (reply_found n d ledger seen f).outcome.next
+found_back : (n : ℕ) (d : Domain) (ledger : List ℕ) (seen : ℕ) (f : Option ℕ) → ReadsBack (reply_found n d ledger seen f).outcome.next
 unfolding staged codes
-found_back n d ledger seen Missing = refl
-found_back n d ledger seen (Found e) = next_back n (moved d _) _ _ (staged_back d.call.stage d.call e (view_of d e) seen)
+found_back n d ledger seen None = refl
+found_back n d ledger seen (Some e) = next_back n (moved d _) _ _ (staged_back d.call.stage d.call e (view_of d e) seen)
 
 abbrev Turns : Turn → Type 0
 Turns t = ReadsBack t.outcome.next

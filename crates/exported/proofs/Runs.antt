@@ -1,5 +1,6 @@
 -- A step of the exported functions is a step of the machine, and so is a run.
 -- Assumes nothing.
+use Rattle.std.specs.Prelude.{Result, Ok}
 use Prim.Native.Nat.{ℕ, ◌+◌, ◌^◌, ◌≤◌, ◌<◌}
 use mathlib.Core.Path.{◌≡◌, refl, sym, ap, ◌∙◌}
 use mathlib.Core.Bool.{Bool, true, false, cond, not}
@@ -12,15 +13,15 @@ use lib.Dec.{eqb, ltb, leb, lit≤}
 use Rattle.word.specs.declared.Port.{Port}
 use Rattle.word.specs.declared.Flag.TheVariants.{Masked}
 use Rattle.word.specs.Word.{Width, mask, port_at}
+use Rattle.calls.specs.declared.types.Answer.{Answer}
 use Rattle.calls.specs.declared.types.Place.TheVariants as place
 use Rattle.calls.specs.declared.types.Access.TheVariants.{Or}
 use Rattle.calls.specs.declared.types.Next.{Next}
 use Rattle.calls.specs.declared.types.Next.TheVariants as next
-use Rattle.calls.specs.declared.types.Masking.{Masking}
+use Rattle.calls.specs.declared.types.Made.{Made}
+use Rattle.calls.specs.declared.types.Refused.{Refused}
 use Rattle.calls.specs.declared.types.Domain.{Domain}
 use Rattle.calls.specs.declared.types.Guest.{Guest}
-use Rattle.calls.specs.declared.hypervisor.start.Acceptance.{Acceptance}
-use Rattle.calls.specs.declared.hypervisor.start.Acceptance.TheVariants as acceptance
 use Rattle.calls.specs.Answers.{code_of}
 use Rattle.calls.specs.Records.{one_more, is_port, is_free, page_limit}
 use Rattle.calls.specs.Hypervisor.{accept_expand, expand_array_of, expand_array, due_of}
@@ -61,7 +62,7 @@ use Rattle.exported.proofs.Meanings.{act_of, guest_act_of, request_means, guest_
 -- ---- the page that an expand adds
 
 -- its answer is 0 exactly where it adds one
-abbrev Adds : Domain → Acceptance → Type 0
+abbrev Adds : Domain → Result Unit Answer → Type 0
 Adds d x = eqb (encoded_next (expand_array_of d x).next).code 0 ≡ ltb d.pages (expand_array_of d x).domain.pages
 
 adds : {n : ℕ} → Width n → (d : Domain) (frame frames : ℕ) → Adds d (accept_expand n d.call.owner d.given d.pages frame frames)
@@ -75,7 +76,7 @@ adds {n} wide d frame frames =
     none : false ≡ ltb d.pages d.pages
     none = sym (le-ltb d.pages d.pages (le_refl d.pages))
 
-    more : d.pages < page_limit n → Adds d acceptance.Accepted
+    more : d.pages < page_limit n → Adds d (Ok tt)
     more h =
         let l : 2 ^ n ≤ 2 ^ 20 = pow-le-pow_right (lit≤ tt) wide.most in
         let s : ltb d.pages 0xFFFFFFFF ≡ true = lt-ltb d.pages 0xFFFFFFFF (omega arith) in
@@ -164,7 +165,7 @@ module _ {n : ℕ} (wide : Width n) (b : Bytes) (long : LongEnough b) where
 
   -- ---- a mask, which her number of words of 32 bits refuses as that of 64 does
 
-  abbrev MaskIs : Masking → Type 0
+  abbrev MaskIs : Result Made Refused → Type 0
   MaskIs x = stepped (run.perform_mask b (decoded_next (encoded_masking x))) ≡ step_of (guest_step (world_of b) (perform_masking guest b.memory x))
 
   masking_is : (p : Port) (words : ℕ) → MaskIs (mask_of n p words)

@@ -1,6 +1,7 @@
 -- The face of a domain moves by a step without its word and by what is refused; a port's own refusal, and the port whose close falls, are
 -- read off it. n is the number of link bits.
 -- Assumes nothing.
+use Rattle.std.specs.Prelude.{None, Some, Result, Err}
 use Prim.Native.Nat.{ℕ}
 use mathlib.Core.Path.{◌≡◌, refl}
 use mathlib.Core.Bool.{Bool, true, false, cond, not}
@@ -9,12 +10,10 @@ use lib.ListN.{length, get_or, length-map, get_or-map}
 use lib.Dec.{ltb}
 use Rattle.word.specs.Bits.{bit, field}
 use Rattle.word.specs.Entry.{bound}
+use Rattle.calls.specs.declared.types.Answer.{Answer}
 use Rattle.calls.specs.declared.types.Answer.TheVariants.{BadPort, NotGiven}
 use Rattle.calls.specs.declared.types.Next.{Next}
 use Rattle.calls.specs.declared.types.Next.TheVariants as next
-use Rattle.calls.specs.declared.records.Lookup.TheVariants.{Found, Missing}
-use Rattle.calls.specs.declared.hypervisor.start.PortAcceptance.{PortAcceptance}
-use Rattle.calls.specs.declared.hypervisor.start.PortAcceptance.TheVariants as port_acceptance
 use Rattle.calls.specs.Answers.{code_of}
 use Rattle.calls.specs.Records.{is_port, entry_at, is_free, closing_port}
 use Rattle.calls.specs.Hypervisor.{entry_or14, accept_port, due_of}
@@ -37,9 +36,9 @@ unfolding bound bit field
 bound_at l i = get_or-map bound l i 0
 
 -- the row of refusals, whatever its tests come to
-abbrev acceptance : Bool → Bool → Bool → ℕ → PortAcceptance
+abbrev acceptance : Bool → Bool → Bool → ℕ → Result ℕ Answer
 acceptance a b c e =
-    cond a (port_acceptance.Refused NotGiven) (cond b (port_acceptance.Refused BadPort) (entry_or14 (cond c (Found e) Missing)))
+    cond a (Err NotGiven) (cond b (Err BadPort) (entry_or14 (cond c (Some e) None)))
 
 refusal_by_lem : (a b c : Bool) (e : ℕ) → entry_refusal (acceptance a b c e) ≡ cond a 10 (cond b 3 (cond c (cond (bound e) 0 4) 14))
 unfolding code_of

@@ -1,6 +1,7 @@
 -- The face after the start of a call: it stays where the start is refused, and else moves as the face alone tells. n is the number of
 -- link bits.
 -- Assumes nothing.
+use Rattle.std.specs.Prelude.{Result, Ok, Err}
 use Prim.Native.Nat.{ℕ, zero, suc}
 use mathlib.Core.Path.{◌≡◌, refl, sym, ap, ◌∙◌}
 use mathlib.Core.Bool.{true, false, cond, not, ◌&&◌, true≢false}
@@ -19,11 +20,8 @@ use Rattle.calls.specs.declared.types.Owner.{Owner}
 use Rattle.calls.specs.declared.types.Owner.TheVariants as owner
 use Rattle.calls.specs.declared.types.Call.{Call}
 use Rattle.calls.specs.declared.types.Domain.{Domain}
-use Rattle.calls.specs.declared.hypervisor.start.Acceptance.{Acceptance}
-use Rattle.calls.specs.declared.hypervisor.start.PortAcceptance.{PortAcceptance}
-use Rattle.calls.specs.declared.hypervisor.start.PortAcceptance.TheVariants as port_acceptance
-use Rattle.calls.specs.declared.hypervisor.start.Begin.{Begin}
-use Rattle.calls.specs.declared.hypervisor.start.Begin.TheVariants as begin
+use Rattle.calls.specs.declared.hypervisor.start.Begun.{Begun}
+use Rattle.calls.specs.declared.hypervisor.start.Begun.TheVariants as begin
 use Rattle.calls.specs.Answers.{code_of}
 use Rattle.calls.specs.Records.{page_limit, is_port, in_array, entry_at, is_free}
 use Rattle.calls.specs.Hypervisor.{Turn, turn, answered, is_offset, accept_init, accept_expand, entry_or14, accept_port, bind_entry, close_entry, priority_entry, link_entry, begin_bind, begin_close, begin_priority, begin_link, first_access, init_control_of, init_control, expand_array_of, expand_array, started, bind_start, close_start, set_priority, raise_start, unmask_start, next_of}
@@ -91,7 +89,7 @@ module _ (n : ℕ) (d : Domain) (ledger : List ℕ) where
       (choose P (leb frames frame) (refusing _ refl BadFrame refl)
       (choose P (not (is_offset offset)) (refusing _ refl BadOffset refl) (record { face = refl; falls = refl })))))
     where
-      P : Acceptance → Type 0
+      P : Result Unit Answer → Type 0
       P a = Goes (InitControl vcpu frame frames offset) (turn (init_control_of n d a) ledger)
 
   expand_goes : (frame frames : ℕ) → Goes (ExpandArray frame frames) (turn (expand_array n d frame frames) ledger)
@@ -102,7 +100,7 @@ module _ (n : ℕ) (d : Domain) (ledger : List ℕ) where
       (choose P (leb (page_limit n) d.pages) (refusing _ refl TooManyPages refl)
       (choose P (leb frames frame) (refusing _ refl BadFrame refl) (record { face = refl; falls = refl }))))
     where
-      P : Acceptance → Type 0
+      P : Result Unit Answer → Type 0
       P a = Goes (ExpandArray frame frames) (turn (expand_array_of d a) ledger)
 
   module _ (p : Port) where
@@ -110,8 +108,8 @@ module _ (n : ℕ) (d : Domain) (ledger : List ℕ) where
     entry = get_or ledger p.0 0
 
     -- every call on a port
-    on_port_lem : (P : PortAcceptance → Type 0) → ((a : Answer) → is_refusal a ≡ true → P (port_acceptance.Refused a)) →
-        (is_free d.call.owner ≡ true → P (port_acceptance.Entry entry)) →
+    on_port_lem : (P : Result ℕ Answer → Type 0) → ((a : Answer) → is_refusal a ≡ true → P (Err a)) →
+        (is_free d.call.owner ≡ true → P (Ok entry)) →
         P (accept_port n d.call.owner d.given p (entry_at ledger p.0))
     unfolding accept_port entry_at code_of
     on_port_lem P refuse accept =
@@ -125,10 +123,10 @@ module _ (n : ℕ) (d : Domain) (ledger : List ℕ) where
     bind_goes =
         on_port_lem (λ a. P (bind_entry d.pages p a)) (refusing (Bind p) refl)
         (λ free. choose P (bound entry) (refusing (Bind p) refl AlreadyBound refl)
-        (by_test P (in_array d.pages p.0) {x = first_access owner.Bind p} {y = begin.Settled (bound_entry entry)} (λ h. record { face = rw h; falls = refl })
+        (by_test P (in_array d.pages p.0) {x = Ok (first_access owner.Bind p)} {y = Ok (begin.Settled (bound_entry entry))} (λ h. record { face = rw h; falls = refl })
         (λ h. record { face = rw h (simp (bounds_set, bound-bound_entry)); falls = refl })))
       where
-        P : Begin → Type 0
+        P : Result Begun Answer → Type 0
         P b = Goes (Bind p) (started n d ledger p b)
 
     close_goes : Goes (Close p) (close_start n d ledger p)
@@ -139,11 +137,11 @@ module _ (n : ℕ) (d : Domain) (ledger : List ℕ) where
         (by_test P (in_array d.pages p.0) (λ h. record { face = rw h; falls = rw h })
         (λ h. record { face = rw h (simp (bounds_set, bound-closed_entry)); falls = rw h })))
       where
-        P : Begin → Type 0
+        P : Result Begun Answer → Type 0
         P b = Goes (Close p) (started n d ledger p b)
 
     -- the others leave it
-    abbrev Stays : Begin → Type 0
+    abbrev Stays : Result Begun Answer → Type 0
     Stays b = face_after (started n d ledger p b) ≡ face_of d ledger
 
     priority_stays : (r : Priority) → face_after (set_priority n d ledger p r) ≡ face_of d ledger

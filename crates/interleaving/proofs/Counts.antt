@@ -1,5 +1,6 @@
 -- The count in an answer is the number of accesses that the call made.
 -- Assumes nothing.
+use Rattle.std.specs.Prelude.{Result, Ok, Err}
 use mathlib.Core.Path.{◌≡◌, refl, sym, ◌∙◌, subst}
 use mathlib.Core.Bool.{Bool, true, false, cond, not}
 use mathlib.Core.List.{List, [], ◌∷◌, ◌++◌}
@@ -17,8 +18,8 @@ use Rattle.calls.specs.declared.types.Answer.{Answer}
 use Rattle.calls.specs.declared.types.Answer.TheVariants.{Done, LinkBits, NoCall}
 use Rattle.calls.specs.declared.types.Next.{Next}
 use Rattle.calls.specs.declared.types.Next.TheVariants as next
-use Rattle.calls.specs.declared.types.Masking.{Masking}
-use Rattle.calls.specs.declared.types.Masking.TheVariants as masking
+use Rattle.calls.specs.declared.types.Made.{Made}
+use Rattle.calls.specs.declared.types.Refused.{Refused}
 use Rattle.calls.specs.declared.types.GuestOutcome.{GuestOutcome}
 use Rattle.calls.specs.declared.types.Owner.{Owner}
 use Rattle.calls.specs.declared.types.Owner.TheVariants as owner
@@ -28,10 +29,8 @@ use Rattle.calls.specs.declared.types.Call.{Call}
 use Rattle.calls.specs.declared.hypervisor.stage.View.{View}
 use Rattle.calls.specs.declared.hypervisor.stage.Move.{Move}
 use Rattle.calls.specs.declared.types.Access.{Access}
-use Rattle.calls.specs.declared.hypervisor.start.Acceptance.{Acceptance}
-use Rattle.calls.specs.declared.hypervisor.start.Acceptance.TheVariants as acceptance
-use Rattle.calls.specs.declared.hypervisor.start.Begin.{Begin}
-use Rattle.calls.specs.declared.hypervisor.start.Begin.TheVariants as begin
+use Rattle.calls.specs.declared.hypervisor.start.Begun.{Begun}
+use Rattle.calls.specs.declared.hypervisor.start.Begun.TheVariants as begin
 use Rattle.calls.specs.Guest.{service_start, mask_of, tell_of}
 use Rattle.calls.specs.ClearMask.{clear_mask_start, guest_reply, guest_due_of}
 use Rattle.calls.specs.Hypervisor as hypervisor
@@ -140,9 +139,9 @@ module _ (n : ℕ) {made : ℕ} (w : World) (s : State made w.domain.call) where
   guest_counts : (o : GuestOutcome) → CountsStep made (guest_step w (guest_replied o Nothing w.memory))
   guest_counts o = record { after = made; state = s; counted = guest_quiet made o.next }
 
-  masking_counts : (x : Masking) → CountsStep made (guest_step w (perform_masking w.guest w.memory x))
-  masking_counts (masking.Refused a count) = record { after = made; state = s; counted = λ es c. c }
-  masking_counts (masking.Made access a count) = record { after = made; state = s; counted = λ es c. c }
+  masking_counts : (x : Result Made Refused) → CountsStep made (guest_step w (perform_masking w.guest w.memory x))
+  masking_counts (Err r) = record { after = made; state = s; counted = λ es c. c }
+  masking_counts (Ok y) = record { after = made; state = s; counted = λ es c. c }
 
   perform_guest_counts : (x : Next) → CountsStep made (guest_step w (perform_guest_next n w.guest w.memory x))
   unfolding guest_access
@@ -162,24 +161,24 @@ module _ (n : ℕ) {made : ℕ} (w : World) (s : State made w.domain.call) where
       → CountsStep made (start_step w (Exec.started (answered (record { given = given; pages = pages; tails = w.domain.tails; call = w.domain.call }) a) ledger words))
   refused_counts a given pages ledger words = record { after = made; state = s; counted = λ es c. c }
 
-  init_counts : (x : Acceptance) → CountsStep made (start_step w (Exec.started (init_control_of n w.domain x) w.ledger w.memory.words))
-  init_counts (acceptance.Refused a) = refused_counts a w.domain.given w.domain.pages w.ledger w.memory.words
-  init_counts acceptance.Accepted = refused_counts (LinkBits n) true w.domain.pages w.ledger w.memory.words
+  init_counts : (x : Result Unit Answer) → CountsStep made (start_step w (Exec.started (init_control_of n w.domain x) w.ledger w.memory.words))
+  init_counts (Err a) = refused_counts a w.domain.given w.domain.pages w.ledger w.memory.words
+  init_counts (Ok tt) = refused_counts (LinkBits n) true w.domain.pages w.ledger w.memory.words
 
-  expand_counts : (x : Acceptance) (words : List ℕ) → CountsStep made (start_step w (Exec.started (expand_array_of w.domain x) w.ledger words))
-  expand_counts (acceptance.Refused a) words = refused_counts a w.domain.given w.domain.pages w.ledger words
-  expand_counts acceptance.Accepted words = refused_counts Done w.domain.given (one_more w.domain.pages) w.ledger words
+  expand_counts : (x : Result Unit Answer) (words : List ℕ) → CountsStep made (start_step w (Exec.started (expand_array_of w.domain x) w.ledger words))
+  expand_counts (Err a) words = refused_counts a w.domain.given w.domain.pages w.ledger words
+  expand_counts (Ok tt) words = refused_counts Done w.domain.given (one_more w.domain.pages) w.ledger words
 
-  started_counts : (starts : Owner) (p : Port) → is_free starts ≡ false → (b : Begin) → BeginFacts n w.domain.pages w.ledger w.domain.call.owner starts p b
+  started_counts : (starts : Owner) (p : Port) → is_free starts ≡ false → (b : Result Begun Answer) → BeginFacts n w.domain.pages w.ledger w.domain.call.owner starts p b
       → CountsStep made (start_step w (turned (hypervisor.started n w.domain w.ledger p b) w.memory.words))
   unfolding hypervisor.started next_of
-  started_counts starts p e (begin.Refused a) f = refused_counts a w.domain.given w.domain.pages w.ledger w.memory.words
-  started_counts starts p e (begin.Begun c) f = rw f.call (rw e (record {
+  started_counts starts p e (Err a) f = refused_counts a w.domain.given w.domain.pages w.ledger w.memory.words
+  started_counts starts p e (Ok (begin.UnderWay c)) f = rw f.call (rw e (record {
     after = 0;
     state = record { before = refl; idle = λ d. clash d e; busy = λ d. lit≤ tt; first = λ d. refl };
     counted = λ es d. subst (λ z. Counted z es) (let a = s.before in let b = s.idle f.free in omega arith) d;
   }))
-  started_counts starts p e (begin.Settled x) f = refused_counts Done w.domain.given w.domain.pages (set w.ledger p.0 x) w.memory.words
+  started_counts starts p e (Ok (begin.Settled x)) f = refused_counts Done w.domain.given w.domain.pages (set w.ledger p.0 x) w.memory.words
 
   start_counts : (z : Start) → CountsStep made (start_step w (start_of n w.domain w.ledger w.memory.words z))
   unfolding start_of init_control expand_of expand_array bind_start close_start set_priority raise_start unmask_start begin_bind begin_close begin_priority begin_link is_free

@@ -1,5 +1,6 @@
 -- Document 01's rules imply those that demand 3 is proved under.
 -- Assumes nothing.
+use Rattle.std.specs.Prelude.{None, Option, Some, Result, Ok, Err}
 use mathlib.Core.Path.{◌≡◌, refl}
 use mathlib.Core.Bool.{Bool, true, false, not, ◌&&◌}
 use mathlib.Core.List.{List, [], ◌∷◌}
@@ -10,19 +11,16 @@ use lib.Dec.{eqb, ltb, leb}
 use borrow.Author.Tests.{ltb-true, ltb-false, eqb-true}
 use Rattle.word.specs.declared.Port.{Port}
 use Rattle.word.specs.Word.{Width}
+use Rattle.calls.specs.declared.types.Answer.{Answer}
 use Rattle.calls.specs.declared.types.Next.{Next}
 use Rattle.calls.specs.declared.types.Next.TheVariants as next
-use Rattle.calls.specs.declared.types.Masking.{Masking}
-use Rattle.calls.specs.declared.types.Masking.TheVariants as masking
+use Rattle.calls.specs.declared.types.Made.{Made}
+use Rattle.calls.specs.declared.types.Refused.{Refused}
 use Rattle.calls.specs.declared.types.Domain.{Domain}
 use Rattle.calls.specs.declared.types.Guest.{Guest}
 use Rattle.calls.specs.declared.types.GuestOutcome.{GuestOutcome}
-use Rattle.calls.specs.declared.records.Lookup.{Lookup}
-use Rattle.calls.specs.declared.records.Lookup.TheVariants.{Found, Missing}
-use Rattle.calls.specs.declared.hypervisor.start.Acceptance.{Acceptance}
-use Rattle.calls.specs.declared.hypervisor.start.Acceptance.TheVariants as acceptance
-use Rattle.calls.specs.declared.hypervisor.start.Begin.{Begin}
-use Rattle.calls.specs.declared.hypervisor.start.Begin.TheVariants as begin
+use Rattle.calls.specs.declared.hypervisor.start.Begun.{Begun}
+use Rattle.calls.specs.declared.hypervisor.start.Begun.TheVariants as begin
 use Rattle.calls.specs.Records.{one_more, is_port, entry_at, is_free, is_clearing}
 use Rattle.calls.specs.Hypervisor.{Turn, accept_expand, init_control_of, init_control, expand_array_of, expand_array, bind_start, close_start, set_priority, raise_start, unmask_start, started, moved, due_of, reply_found, reply_of}
 use Rattle.calls.specs.Guest.{is_serving, service_start, guest_moved, service_reply, mask_of, tell_of}
@@ -42,20 +40,20 @@ use Rattle.interleaving.specs.Demand3.{Demand3, Demand3ByDocument}
 use Rattle.interleaving.proofs.Theorem.{demand3}
 
 -- ---- the array never shrinks
-init_pages : (n : ℕ) (d : Domain) (x : Acceptance) → (init_control_of n d x).domain.pages ≡ d.pages
-init_pages n d (acceptance.Refused a) = refl
-init_pages n d acceptance.Accepted = refl
+init_pages : (n : ℕ) (d : Domain) (x : Result Unit Answer) → (init_control_of n d x).domain.pages ≡ d.pages
+init_pages n d (Err a) = refl
+init_pages n d (Ok tt) = refl
 
-expand_pages : (d : Domain) (x : Acceptance) → d.pages ≤ (expand_array_of d x).domain.pages
+expand_pages : (d : Domain) (x : Result Unit Answer) → d.pages ≤ (expand_array_of d x).domain.pages
 unfolding one_more
-expand_pages d (acceptance.Refused a) = le_refl d.pages
-expand_pages d acceptance.Accepted = by_cond (λ z. d.pages ≤ z) (ltb d.pages 0xFFFFFFFF) (d.pages + 1) d.pages (λ e. omega arith) (λ e. le_refl d.pages)
+expand_pages d (Err a) = le_refl d.pages
+expand_pages d (Ok tt) = by_cond (λ z. d.pages ≤ z) (ltb d.pages 0xFFFFFFFF) (d.pages + 1) d.pages (λ e. omega arith) (λ e. le_refl d.pages)
 
-started_pages : (n : ℕ) (d : Domain) (ledger : List ℕ) (p : Port) (b : Begin) → (started n d ledger p b).outcome.domain.pages ≡ d.pages
+started_pages : (n : ℕ) (d : Domain) (ledger : List ℕ) (p : Port) (b : Result Begun Answer) → (started n d ledger p b).outcome.domain.pages ≡ d.pages
 unfolding started
-started_pages n d ledger p (begin.Refused a) = refl
-started_pages n d ledger p (begin.Begun c) = refl
-started_pages n d ledger p (begin.Settled e) = refl
+started_pages n d ledger p (Err a) = refl
+started_pages n d ledger p (Ok (begin.UnderWay c)) = refl
+started_pages n d ledger p (Ok (begin.Settled e)) = refl
 
 start_pages : (n : ℕ) (d : Domain) (ledger words : List ℕ) (s : Start) → d.pages ≤ (start_of n d ledger words s).outcome.domain.pages
 unfolding start_of init_control expand_of expand_array bind_start close_start set_priority raise_start unmask_start
@@ -67,10 +65,10 @@ start_pages n d ledger words (SetPriority p r) = rw (started_pages n d ledger p 
 start_pages n d ledger words (Raise p) = rw (started_pages n d ledger p _) (le_refl d.pages)
 start_pages n d ledger words (Unmask p) = rw (started_pages n d ledger p _) (le_refl d.pages)
 
-found_pages : (n : ℕ) (d : Domain) (ledger : List ℕ) (seen : ℕ) (x : Lookup) → (reply_found n d ledger seen x).outcome.domain.pages ≡ d.pages
+found_pages : (n : ℕ) (d : Domain) (ledger : List ℕ) (seen : ℕ) (x : Option ℕ) → (reply_found n d ledger seen x).outcome.domain.pages ≡ d.pages
 unfolding moved
-found_pages n d ledger seen Missing = refl
-found_pages n d ledger seen (Found e) = refl
+found_pages n d ledger seen None = refl
+found_pages n d ledger seen (Some e) = refl
 
 reply_pages : (n : ℕ) (d : Domain) (ledger : List ℕ) (seen : ℕ) → (reply_of n d ledger seen).outcome.domain.pages ≡ d.pages
 unfolding reply_of
@@ -102,9 +100,9 @@ module _ (n : ℕ) (g : Guest) where
   perform_words m (next.Access a) = reply_words _
   perform_words m (next.Answer a count) = reply_words 0
 
-mask_words : (g : Guest) (m : Memory) (x : Masking) → (perform_masking g m x).turn.outcome.guest.words ≡ g.words
-mask_words g m (masking.Refused a count) = refl
-mask_words g m (masking.Made access a count) = refl
+mask_words : (g : Guest) (m : Memory) (x : Result Made Refused) → (perform_masking g m x).turn.outcome.guest.words ≡ g.words
+mask_words g m (Err r) = refl
+mask_words g m (Ok y) = refl
 
 -- ---- her number of words is never beyond the array's, and equal where no tell is due
 record Follows (due : Bool) (w : World) : Type 0 where

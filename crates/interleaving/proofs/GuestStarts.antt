@@ -1,5 +1,6 @@
 -- The starts of the guest's calls: service, mask with its access, clear_mask, tell.
 -- Assumes nothing.
+use Rattle.std.specs.Prelude.{Ok, Err}
 use mathlib.Core.Path.{◌≡◌, refl, sym, subst}
 use mathlib.Core.Logic.{◌≢◌}
 use mathlib.Core.Bool.{true, false, not}
@@ -20,7 +21,6 @@ use Rattle.calls.specs.declared.types.Access.TheVariants.{Read, Or}
 use Rattle.calls.specs.declared.types.Place.TheVariants as place
 use Rattle.calls.specs.declared.types.Next.{Next}
 use Rattle.calls.specs.declared.types.Next.TheVariants as next
-use Rattle.calls.specs.declared.types.Masking.TheVariants as masking
 use Rattle.calls.specs.declared.types.GuestStage.{GuestStage}
 use Rattle.calls.specs.declared.types.GuestStage.TheVariants as guest_stage
 use Rattle.calls.specs.declared.types.GuestCall as guests
@@ -121,7 +121,7 @@ module _ {n : ℕ} (w : World) (h : List Event) (k : Good n w h) where
       (λ e. by_cond Starts (is_serving w.guest.call.stage) _ _ (λ d. answered_kept CallUnderWay 0 (λ d. omega arith)) service_kept)
 
   -- a mask in the array
-  masked_kept : Width n → (p : Port) → p.0 < 1024 * w.domain.pages → Kept n (guest_step w (perform_masking w.guest w.memory (masking.Made (Or (place.Word p) (mask Masked)) Done 1))) h
+  masked_kept : Width n → (p : Port) → p.0 < 1024 * w.domain.pages → Kept n (guest_step w (perform_masking w.guest w.memory (Ok (record { access = Or (place.Word p) (mask Masked); answer = Done; count = 1 })))) h
   unfolding code_of performed place_of after_access loaded saved
   masked_kept wide p inside = record {
     good = record {
@@ -153,9 +153,9 @@ module _ {n : ℕ} (w : World) (h : List Event) (k : Good n w h) where
 
   mask_kept : Width n → (p : Port) → w.guest.words ≤ array_words w → Kept n (guest_step w (perform_mask n w.guest w.memory p)) h
   unfolding perform_mask mask_of code_of
-  mask_kept wide p within = by_cond (λ x. Kept n (guest_step w (perform_masking w.guest w.memory x)) h) (not (is_port n p.0)) (masking.Refused BadPort 0) _
+  mask_kept wide p within = by_cond (λ x. Kept n (guest_step w (perform_masking w.guest w.memory x)) h) (not (is_port n p.0)) (Err (record { answer = BadPort; count = 0 })) _
       (λ e. answered_kept BadPort 0 (λ d. omega arith))
-      (λ e. by_cond (λ x. Kept n (guest_step w (perform_masking w.guest w.memory x)) h) (leb w.guest.words p.0) (masking.Refused OutsideArray 0) _
+      (λ e. by_cond (λ x. Kept n (guest_step w (perform_masking w.guest w.memory x)) h) (leb w.guest.words p.0) (Err (record { answer = OutsideArray; count = 0 })) _
       (λ d. answered_kept OutsideArray 0 (λ z. omega arith))
       (λ d. masked_kept wide p (below w p.0 within d)))
 

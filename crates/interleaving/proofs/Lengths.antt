@@ -1,5 +1,6 @@
 -- The accesses of a call of the hypervisor's, which its counts bound, and of a service, which its stage bounds.
 -- Assumes nothing.
+use Rattle.std.specs.Prelude.{Result, Ok, Err}
 use mathlib.Core.Path.{◌≡◌, refl}
 use mathlib.Core.Bool.{Bool, true, false, not}
 use mathlib.Core.List.{List, [], ◌∷◌, ◌++◌}
@@ -14,8 +15,8 @@ use Rattle.word.specs.Ready.{merged}
 use Rattle.calls.specs.declared.types.Access.{Access}
 use Rattle.calls.specs.declared.types.Next.{Next}
 use Rattle.calls.specs.declared.types.Next.TheVariants as next
-use Rattle.calls.specs.declared.types.Masking.{Masking}
-use Rattle.calls.specs.declared.types.Masking.TheVariants as masking
+use Rattle.calls.specs.declared.types.Made.{Made as Masks}
+use Rattle.calls.specs.declared.types.Refused.{Refused}
 use Rattle.calls.specs.declared.types.Answer.TheVariants.{NoCall}
 use Rattle.calls.specs.declared.types.GuestStage.{GuestStage}
 use Rattle.calls.specs.declared.types.GuestStage.TheVariants as guest_stage
@@ -101,9 +102,9 @@ module _ (n : ℕ) {made : ℕ} (w : World) (s : Few made w.guest.call.stage) wh
   guest_served : (o : GuestOutcome) → Made o.guest.call.stage made → ServiceStep made (guest_step w (guest_replied o Nothing w.memory))
   guest_served o h = record { after = made; state = record { few = s.few; stage = h }; counted = guest_answer_quiet made o.next }
 
-  masking_served : (x : Masking) → ServiceStep made (guest_step w (perform_masking w.guest w.memory x))
-  masking_served (masking.Refused a count) = record { after = made; state = s; counted = λ es. refl }
-  masking_served (masking.Made access a count) = record { after = made; state = s; counted = λ es. refl }
+  masking_served : (x : Result Masks Refused) → ServiceStep made (guest_step w (perform_masking w.guest w.memory x))
+  masking_served (Err r) = record { after = made; state = s; counted = λ es. refl }
+  masking_served (Ok y) = record { after = made; state = s; counted = λ es. refl }
 
   abbrev Still : GuestOutcome → Type 0
   Still o = Made o.guest.call.stage made

@@ -1,13 +1,14 @@
 -- Every access lies inside: the hypervisor's by demand 1, the guest's because her words are the array's where she makes one.
 -- Assumes nothing.
+use Rattle.std.specs.Prelude.{Result, Ok, Err}
 use Prim.Native.Nat.{ℕ, ◌*◌}
 use mathlib.Core.Path.{◌≡◌, refl, ap, subst, ◌∙◌}
 use mathlib.Core.List.{List, [], ◌∷◌, ◌++◌}
 use native.Mathlib.Omega.{arith}
 use Rattle.calls.specs.declared.types.Next.{Next}
 use Rattle.calls.specs.declared.types.Next.TheVariants as next
-use Rattle.calls.specs.declared.types.Masking.{Masking}
-use Rattle.calls.specs.declared.types.Masking.TheVariants as masking
+use Rattle.calls.specs.declared.types.Made.{Made}
+use Rattle.calls.specs.declared.types.Refused.{Refused}
 use Rattle.calls.specs.declared.types.Domain.{Domain}
 use Rattle.calls.specs.declared.types.Guest.{Guest}
 use Rattle.calls.specs.Records.{is_clearing, fresh_domain, fresh_guest}
@@ -102,9 +103,9 @@ module _ (n : ℕ) (w : World) (r : Reached n w.domain w.guest) where
       inside = subst (λ (words : ℕ). Inside words (place_of a)) (ap (λ (g : Guest). g.words) r.guest ∙ told) ((services_bounded n r.guest_acts).due a (ap (guest_due_of n) r.guest ∙ e))
   guest_inside told (next.Answer a count) e = guest_replies 0
 
-  mask_inside : Told w → (x : Masking) → MaskInside w.guest.words x → EventsInside (array_words w) (step_of (guest_step w (perform_masking w.guest w.memory x))).events
-  mask_inside told (masking.Refused a count) h = (tt, tt)
-  mask_inside told (masking.Made access a count) h = (subst (λ (words : ℕ). Inside words (place_of access)) told h, (tt, tt))
+  mask_inside : Told w → (x : Result Made Refused) → MaskInside w.guest.words x → EventsInside (array_words w) (step_of (guest_step w (perform_masking w.guest w.memory x))).events
+  mask_inside told (Err r) h = (tt, tt)
+  mask_inside told (Ok y) h = (subst (λ (words : ℕ). Inside words (place_of y.access)) told h, (tt, tt))
 
   step_inside : (s : Step) → Allowed w s → EventsInside (array_words w) (exec n w s).events
   unfolding advance_of guest_start_of perform_mask perform_side perform_hypervisor perform_guest hand_back

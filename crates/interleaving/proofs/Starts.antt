@@ -1,5 +1,6 @@
 -- The starts of the hypervisor's calls.
 -- Assumes nothing.
+use Rattle.std.specs.Prelude.{Some, None, Result, Ok, Err}
 use mathlib.Core.Path.{◌≡◌, refl, sym, ap, ◌∙◌, subst}
 use mathlib.Core.Logic.{◌≢◌}
 use mathlib.Core.Bool.{Bool, true, false, cond, not, ◌&&◌}
@@ -26,13 +27,8 @@ use Rattle.calls.specs.declared.types.Owner.TheVariants as owner
 use Rattle.calls.specs.declared.types.Stage.{Stage}
 use Rattle.calls.specs.declared.types.Stage.TheVariants as stage
 use Rattle.calls.specs.declared.types.Call as calls
-use Rattle.calls.specs.declared.records.Lookup.TheVariants.{Found, Missing}
-use Rattle.calls.specs.declared.hypervisor.start.Acceptance.{Acceptance}
-use Rattle.calls.specs.declared.hypervisor.start.Acceptance.TheVariants as acceptance
-use Rattle.calls.specs.declared.hypervisor.start.PortAcceptance.{PortAcceptance}
-use Rattle.calls.specs.declared.hypervisor.start.PortAcceptance.TheVariants as port_acceptance
-use Rattle.calls.specs.declared.hypervisor.start.Begin.{Begin}
-use Rattle.calls.specs.declared.hypervisor.start.Begin.TheVariants as begin
+use Rattle.calls.specs.declared.hypervisor.start.Begun.{Begun as Beginning}
+use Rattle.calls.specs.declared.hypervisor.start.Begun.TheVariants as begin
 use Rattle.calls.specs.Answers.{code_of}
 use Rattle.calls.specs.Records.{one_more, page_limit, is_port, in_array, entry_at, is_free, call_at, with_call}
 use Rattle.calls.specs.Hypervisor.{accept_init, accept_expand, accept_port, entry_or14, first_access, bind_entry, close_entry, priority_entry, link_entry, begin_bind, begin_close, begin_priority, begin_link, answered, next_of, init_control_of, init_control, expand_array_of, expand_array, bind_start, close_start, set_priority, raise_start, unmask_start}
@@ -82,9 +78,9 @@ free_idle n c e = go c.owner c.stage e
 abbrev pub Fine : Answer → Type 0
 Fine a = (code_of a).number ≢ 2
 
-abbrev InitFacts : Acceptance → Type 0
-InitFacts (acceptance.Refused a) = Fine a
-InitFacts acceptance.Accepted = Unit {0}
+abbrev InitFacts : Result Unit Answer → Type 0
+InitFacts (Err a) = Fine a
+InitFacts (Ok tt) = Unit {0}
 
 init_facts : (o : Owner) (given : Bool) (vcpu frame frames offset : ℕ) → InitFacts (accept_init o given vcpu frame frames offset)
 unfolding accept_init code_of
@@ -96,9 +92,9 @@ record Expands (n pages : ℕ) (o : Owner) : Type 0 where
   few : pages < page_limit n
 
 module _ (n pages : ℕ) (o : Owner) where
-  abbrev ExpandFacts : Acceptance → Type 0
-  ExpandFacts (acceptance.Refused a) = Fine a
-  ExpandFacts acceptance.Accepted = Expands n pages o
+  abbrev ExpandFacts : Result Unit Answer → Type 0
+  ExpandFacts (Err a) = Fine a
+  ExpandFacts (Ok tt) = Expands n pages o
 
   expand_facts : (given : Bool) (frame frames : ℕ) → ExpandFacts (accept_expand n o given pages frame frames)
   unfolding accept_expand code_of
@@ -125,20 +121,20 @@ pub record Settled (ledger : List ℕ) (p e : ℕ) : Type 0 where
   pub ever : ever_linked e ≡ ever_linked (get_or ledger p 0)
 
 module _ (n pages : ℕ) (ledger : List ℕ) (o starts : Owner) (p : Port) where
-  abbrev pub PortFacts : PortAcceptance → Type 0
-  PortFacts (port_acceptance.Refused a) = Fine a
-  PortFacts (port_acceptance.Entry e) = WithEntry ledger o p.0 e
+  abbrev pub PortFacts : Result ℕ Answer → Type 0
+  PortFacts (Err a) = Fine a
+  PortFacts (Ok e) = WithEntry ledger o p.0 e
 
-  abbrev pub BeginFacts : Begin → Type 0
-  BeginFacts (begin.Refused a) = Fine a
-  BeginFacts (begin.Begun c) = Begun pages ledger o starts p c
-  BeginFacts (begin.Settled e) = Settled ledger p.0 e
+  abbrev pub BeginFacts : Result Beginning Answer → Type 0
+  BeginFacts (Err a) = Fine a
+  BeginFacts (Ok (begin.UnderWay c)) = Begun pages ledger o starts p c
+  BeginFacts (Ok (begin.Settled e)) = Settled ledger p.0 e
 
   pub port_facts : (given : Bool) → PortFacts (accept_port n o given p (entry_at ledger p.0))
   unfolding accept_port entry_at is_port code_of
   port_facts given = by_cond PortFacts (not (is_free o)) _ _ (λ e d. omega arith) (λ free. by_cond PortFacts (not given) _ _ (λ e d. omega arith)
       (λ e. by_cond PortFacts (not (not (eqb p.0 0) && ltb p.0 (2 ^ n))) _ _ (λ e d. omega arith)
-      (λ port. by_cond (λ l. PortFacts (entry_or14 l)) (ltb p.0 (length ledger)) (Found (get_or ledger p.0 0)) Missing
+      (λ port. by_cond (λ l. PortFacts (entry_or14 l)) (ltb p.0 (length ledger)) (Some (get_or ledger p.0 0)) None
       (λ here. record {
         free = not-false (is_free o) free;
         some = eqb-false p.0 0 (not-true (eqb p.0 0) (and_both (not (eqb p.0 0)) _ (not-false _ port)).0);
@@ -147,35 +143,35 @@ module _ (n pages : ℕ) (ledger : List ℕ) (o starts : Owner) (p : Port) where
       })
       (λ e d. omega arith))))
 
-  begun : (e : ℕ) → WithEntry ledger o p.0 e → in_array pages p.0 ≡ true → BeginFacts (first_access starts p)
+  begun : (e : ℕ) → WithEntry ledger o p.0 e → in_array pages p.0 ≡ true → BeginFacts (Ok (first_access starts p))
   unfolding in_array
   begun e f i = record { free = f.free; real = record { some = f.some; inside = let a : p.0 / 1024 < pages = ltb-true (p.0 / 1024) pages i in omega arith }; entry = f.entry; call = refl }
 
 module _ (n pages : ℕ) (ledger : List ℕ) (o : Owner) (p : Port) where
-  pub bind_facts : (x : PortAcceptance) → PortFacts n pages ledger o owner.Bind p x → BeginFacts n pages ledger o owner.Bind p (bind_entry pages p x)
+  pub bind_facts : (x : Result ℕ Answer) → PortFacts n pages ledger o owner.Bind p x → BeginFacts n pages ledger o owner.Bind p (bind_entry pages p x)
   unfolding code_of
-  bind_facts (port_acceptance.Refused a) f = f
-  bind_facts (port_acceptance.Entry e) f = by_cond (BeginFacts n pages ledger o owner.Bind p) (bound e) _ _ (λ e d. omega arith)
+  bind_facts (Err a) f = f
+  bind_facts (Ok e) f = by_cond (BeginFacts n pages ledger o owner.Bind p) (bound e) _ _ (λ e d. omega arith)
       (λ b. by_cond (BeginFacts n pages ledger o owner.Bind p) (in_array pages p.0) _ _ (begun n pages ledger o owner.Bind p e f)
       (λ i. record { last = last_queue-bound_entry e ∙ ap last_queue f.same; ever = ever_linked-bound_entry e ∙ ap ever_linked f.same }))
 
-  pub close_facts : (x : PortAcceptance) → PortFacts n pages ledger o owner.Close p x → BeginFacts n pages ledger o owner.Close p (close_entry pages p x)
+  pub close_facts : (x : Result ℕ Answer) → PortFacts n pages ledger o owner.Close p x → BeginFacts n pages ledger o owner.Close p (close_entry pages p x)
   unfolding code_of
-  close_facts (port_acceptance.Refused a) f = f
-  close_facts (port_acceptance.Entry e) f = by_cond (BeginFacts n pages ledger o owner.Close p) (not (bound e)) _ _ (λ e d. omega arith)
+  close_facts (Err a) f = f
+  close_facts (Ok e) f = by_cond (BeginFacts n pages ledger o owner.Close p) (not (bound e)) _ _ (λ e d. omega arith)
       (λ b. by_cond (BeginFacts n pages ledger o owner.Close p) (in_array pages p.0) _ _ (begun n pages ledger o owner.Close p e f)
       (λ i. record { last = last_queue-closed_entry e ∙ ap last_queue f.same; ever = ever_linked-closed_entry e ∙ ap ever_linked f.same }))
 
-  pub priority_facts : (r : Priority) (starts : Owner) (x : PortAcceptance) → PortFacts n pages ledger o starts p x → BeginFacts n pages ledger o starts p (priority_entry r x)
+  pub priority_facts : (r : Priority) (starts : Owner) (x : Result ℕ Answer) → PortFacts n pages ledger o starts p x → BeginFacts n pages ledger o starts p (priority_entry r x)
   unfolding code_of
-  priority_facts r starts (port_acceptance.Refused a) f = f
-  priority_facts r starts (port_acceptance.Entry e) f = by_cond (BeginFacts n pages ledger o starts p) (ltb 15 r.0) _ _ (λ e d. omega arith)
+  priority_facts r starts (Err a) f = f
+  priority_facts r starts (Ok e) f = by_cond (BeginFacts n pages ledger o starts p) (ltb 15 r.0) _ _ (λ e d. omega arith)
       (λ b. record { last = last_queue-with_priority e r.0 ∙ ap last_queue f.same; ever = ever_linked-with_priority e r.0 ∙ ap ever_linked f.same })
 
-  pub link_facts : (starts : Owner) (x : PortAcceptance) → PortFacts n pages ledger o starts p x → BeginFacts n pages ledger o starts p (link_entry starts pages p x)
+  pub link_facts : (starts : Owner) (x : Result ℕ Answer) → PortFacts n pages ledger o starts p x → BeginFacts n pages ledger o starts p (link_entry starts pages p x)
   unfolding code_of
-  link_facts starts (port_acceptance.Refused a) f = f
-  link_facts starts (port_acceptance.Entry e) f = by_cond (BeginFacts n pages ledger o starts p) (not (bound e)) _ _ (λ e d. omega arith)
+  link_facts starts (Err a) f = f
+  link_facts starts (Ok e) f = by_cond (BeginFacts n pages ledger o starts p) (not (bound e)) _ _ (λ e d. omega arith)
       (λ b. by_cond (BeginFacts n pages ledger o starts p) (not (in_array pages p.0)) _ _ (λ e d. omega arith) (λ i. begun n pages ledger o starts p e f (not-false (in_array pages p.0) i)))
 
 -- ---- what the starts keep
@@ -192,10 +188,10 @@ module _ {n : ℕ} (w : World) (h : List Event) (k : Good n w h) where
     bounds = bounds_start a f;
   }
 
-  init_kept : (x : Acceptance) → InitFacts x → Kept n (start_step w (started (init_control_of n w.domain x) w.ledger w.memory.words)) h
+  init_kept : (x : Result Unit Answer) → InitFacts x → Kept n (start_step w (started (init_control_of n w.domain x) w.ledger w.memory.words)) h
   unfolding code_of
-  init_kept (acceptance.Refused a) f = refused_kept a f
-  init_kept acceptance.Accepted f = record {
+  init_kept (Err a) f = refused_kept a f
+  init_kept (Ok tt) f = record {
     good = record { lists = k.lists; inv = k.inv; sizes = k.sizes; fit = k.fit; count = k.count; guest_queue = k.guest_queue; clear_word = k.clear_word; order = order_start (next.Answer (LinkBits n) 0) };
     bounds = bounds_start (LinkBits n) (λ d. omega arith);
   }
@@ -209,11 +205,11 @@ module _ {n : ℕ} (w : World) (h : List Event) (k : Good n w h) where
       go true false e d = let t = ltb-false x (1024 * (pages + 1)) d in ne_eqb (x / 1024) pages (λ z. omega arith)
       go false b e d = let s = leb-false (1024 * pages) x e in ne_eqb (x / 1024) pages (λ z. omega arith)
 
-  expand_kept : Width n → (x : Acceptance) → ExpandFacts n w.domain.pages w.domain.call.owner x
+  expand_kept : Width n → (x : Result Unit Answer) → ExpandFacts n w.domain.pages w.domain.call.owner x
       → Kept n (start_step w (started (expand_array_of w.domain x) w.ledger (page_added w.domain (expand_array_of w.domain x) w.memory.words))) h
   unfolding one_more
-  expand_kept wide (acceptance.Refused a) f = rw (le-ltb w.domain.pages w.domain.pages (omega arith)) (refused_kept a f)
-  expand_kept wide acceptance.Accepted f = rw (lt-ltb pages 0xFFFFFFFF (omega (arith, few))) (rw (lt-ltb pages (pages + 1) (omega arith)) (record {
+  expand_kept wide (Err a) f = rw (le-ltb w.domain.pages w.domain.pages (omega arith)) (refused_kept a f)
+  expand_kept wide (Ok tt) f = rw (lt-ltb pages 0xFFFFFFFF (omega (arith, few))) (rw (lt-ltb pages (pages + 1) (omega arith)) (record {
     good = record {
       lists = k.lists;
       inv = subst (λ v. Inv v (call_of n w.domain.call) (guests_of w) (clears_of n w) k.lists) (sym view)
@@ -260,10 +256,10 @@ module _ {n : ℕ} (w : World) (h : List Event) (k : Good n w h) where
           (λ e. k.sizes.small x (let d = eqb-false (x / 1024) pages e in omega arith)))
 
   started_kept : (starts : Owner) (kind : Kind) (p : Port) → call_of n (call_at starts stage.First p (queue_at 0) 1) ≡ asks kind p.0
-      → (b : Begin) → BeginFacts n w.domain.pages w.ledger w.domain.call.owner starts p b → Kept n (start_step w (turned (hypervisor.started n w.domain w.ledger p b) w.memory.words)) h
+      → (b : Result Beginning Answer) → BeginFacts n w.domain.pages w.ledger w.domain.call.owner starts p b → Kept n (start_step w (turned (hypervisor.started n w.domain w.ledger p b) w.memory.words)) h
   unfolding hypervisor.started
-  started_kept starts kind p e (begin.Refused a) f = refused_kept a f
-  started_kept starts kind p e (begin.Begun c) f = rw f.call (record {
+  started_kept starts kind p e (Err a) f = refused_kept a f
+  started_kept starts kind p e (Ok (begin.UnderWay c)) f = rw f.call (record {
     good = record {
       lists = k.lists;
       inv = rw e (start_keeps kind p.0 f.real (rw (free_idle n w.domain.call f.free) at k.inv));
@@ -276,7 +272,7 @@ module _ {n : ℕ} (w : World) (h : List Event) (k : Good n w h) where
     };
     bounds = answer_bounds n _ Done 0 (record { link_not_abandoned = done; accesses = zero-le });
   })
-  started_kept starts kind p e (begin.Settled x) f = record {
+  started_kept starts kind p e (Ok (begin.Settled x)) f = record {
     good = record {
       lists = k.lists;
       inv = subst (λ v. Inv v (call_of n w.domain.call) (guests_of w) (clears_of n w) k.lists) (sym (agree (record {
@@ -301,7 +297,7 @@ module _ {n : ℕ} (w : World) (h : List Event) (k : Good n w h) where
     bounds = bounds_start Done done;
   }
 
-  abbrev accepted : Port → PortAcceptance
+  abbrev accepted : Port → Result ℕ Answer
   accepted p = accept_port n w.domain.call.owner w.domain.given p (entry_at w.ledger p.0)
 
   pub start_kept : Width n → (s : Start) → Kept n (start_step w (start_of n w.domain w.ledger w.memory.words s)) h

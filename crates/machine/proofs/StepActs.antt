@@ -1,6 +1,7 @@
 -- Every step of the machine is one act of a side, with the ledger lent to it, or a mask; and its memory is as its access
 -- leaves it, but for an expand that adds a page.
 -- Assumes nothing.
+use Rattle.std.specs.Prelude.{Result, Ok, Err}
 use Prim.Native.Nat.{ℕ}
 use mathlib.Core.Path.{◌≡◌, refl, sym, ap, ◌∙◌}
 use mathlib.Core.Bool.{true, false, not, true≢false}
@@ -14,8 +15,8 @@ use Rattle.calls.specs.declared.types.Answer.{Answer}
 use Rattle.calls.specs.declared.types.Answer.TheVariants.{NoCall, BadIndex}
 use Rattle.calls.specs.declared.types.Next.{Next}
 use Rattle.calls.specs.declared.types.Next.TheVariants as next
-use Rattle.calls.specs.declared.types.Masking.{Masking}
-use Rattle.calls.specs.declared.types.Masking.TheVariants as masking
+use Rattle.calls.specs.declared.types.Made.{Made}
+use Rattle.calls.specs.declared.types.Refused.{Refused}
 use Rattle.calls.specs.declared.types.Domain.{Domain}
 use Rattle.calls.specs.declared.types.Outcome.{Outcome}
 use Rattle.calls.specs.Answers.{code_of}
@@ -55,9 +56,9 @@ pub data Acted (n : ℕ) (w : World) (s : Step) : Advanced → Type 0 where
 no_page : (d : Domain) (o : Outcome) (ws : List ℕ) → o.domain.pages ≡ d.pages → page_added d o ws ≡ ws
 no_page d o ws e = rw (e, le-ltb d.pages d.pages (le_refl d.pages))
 
-abbrev Masks : Masking → Type 0
-Masks (masking.Refused a count) = a ≢ BadIndex
-Masks (masking.Made access a count) = (a ≢ BadIndex) × (is_refusal a ≡ false)
+abbrev Masks : Result Made Refused → Type 0
+Masks (Err r) = r.answer ≢ BadIndex
+Masks (Ok x) = (x.answer ≢ BadIndex) × (is_refusal x.answer ≡ false)
 
 masks : (n : ℕ) (p : Port) (words : ℕ) → Masks (mask_of n p words)
 unfolding mask_of code_of
@@ -86,9 +87,9 @@ module _ (n : ℕ) (w : World) where
   start_acted (Raise p) = started (acts.Raise p) refl
   start_acted (Unmask p) = started (acts.Unmask p) refl
 
-  mask_acted : (p : Port) (x : Masking) → Masks x → Acted n w (step.Guest (Mask p)) (guest_step w (perform_masking w.guest w.memory x))
-  mask_acted p (masking.Refused a count) h = by_mask Nothing h refl refl (λ f. refl)
-  mask_acted p (masking.Made access a count) h = by_mask (MaskAccess access (performed w.memory access).seen) h.0 refl refl (λ f. absurd (true≢false (sym f ∙ h.1)))
+  mask_acted : (p : Port) (x : Result Made Refused) → Masks x → Acted n w (step.Guest (Mask p)) (guest_step w (perform_masking w.guest w.memory x))
+  mask_acted p (Err r) h = by_mask Nothing h refl refl (λ f. refl)
+  mask_acted p (Ok x) h = by_mask (MaskAccess x.access (performed w.memory x.access).seen) h.0 refl refl (λ f. absurd (true≢false (sym f ∙ h.1)))
 
   hypervisor_acted : (x : Next) → due_of n w.domain ≡ x → Acted n w (step.Perform side.Hypervisor) (hypervisor_step w (perform_hypervisor_next n w.domain w.ledger w.memory x))
   hypervisor_acted (next.Access a) h =

@@ -1,13 +1,13 @@
 -- The stepped machine: what a step makes of the world, and what happens in it. The calls are the very definitions that
 -- their code is proved equal to. n is the number of link bits.
 -- Assumes nothing.
-use Rattle.std.specs.Prelude.{ℕ, zero, suc, Bool, true, false, cond, List, [], ◌∷◌, ◌++◌, ltb}
+use Rattle.std.specs.Prelude.{Result, Ok, Err, ℕ, zero, suc, Bool, true, false, cond, List, [], ◌∷◌, ◌++◌, ltb}
 use Rattle.word.specs.declared.Port.{Port}
 use Rattle.calls.specs.declared.types.Access.{Access}
 use Rattle.calls.specs.declared.types.Next.{Next}
 use Rattle.calls.specs.declared.types.Next.TheVariants as next
-use Rattle.calls.specs.declared.types.Masking.{Masking}
-use Rattle.calls.specs.declared.types.Masking.TheVariants as masking
+use Rattle.calls.specs.declared.types.Made.{Made}
+use Rattle.calls.specs.declared.types.Refused.{Refused}
 use Rattle.calls.specs.declared.types.Domain.{Domain}
 use Rattle.calls.specs.declared.types.Outcome.{Outcome}
 use Rattle.calls.specs.declared.types.Guest.{Guest}
@@ -27,8 +27,7 @@ use Rattle.machine.specs.declared.types.Step.{Step}
 use Rattle.machine.specs.declared.types.Step.TheVariants as step
 use Rattle.machine.specs.declared.types.Event.{Event}
 use Rattle.machine.specs.declared.types.Event.TheVariants.{Nothing, HypervisorAccess, GuestAccess, ClearAccess, MaskAccess, HypervisorAnswer, GuestAnswer}
-use Rattle.machine.specs.declared.types.HypervisorTurn.{HypervisorTurn}
-use Rattle.machine.specs.declared.types.GuestTurn.{GuestTurn}
+use Rattle.machine.specs.declared.types.Part.{Part}
 use Rattle.machine.specs.declared.types.Sides.{Sides}
 use Rattle.machine.specs.declared.types.Advance.{Advance}
 
@@ -81,20 +80,24 @@ abbrev pub guest_answer : Next → Event
 guest_answer (next.Access a) = Nothing
 guest_answer (next.Answer a count) = GuestAnswer a count
 
-abbrev pub hypervisor_advance : HypervisorTurn → Guest → Advance
+abbrev pub answer_event : Side → Next → Event
+answer_event side.Hypervisor x = hypervisor_answer x
+answer_event side.Guest x = guest_answer x
+
+abbrev pub hypervisor_advance : Part Outcome → Guest → Advance
 hypervisor_advance t g = record { sides = record { domain = t.outcome.domain; guest = g }; access = t.access; answer = hypervisor_answer t.outcome.next }
 
-abbrev pub guest_advance : GuestTurn → Domain → Advance
+abbrev pub guest_advance : Part GuestOutcome → Domain → Advance
 guest_advance t d = record { sides = record { domain = d; guest = t.outcome.guest }; access = t.access; answer = guest_answer t.outcome.next }
 
 -- ---- the hypervisor's part in a step
 
 pub record HypervisorDid : Type 0 where
-  pub turn : HypervisorTurn
+  pub turn : Part Outcome
   pub ledger : List ℕ
   pub memory : Memory
 
-abbrev pub hypervisor_did : HypervisorTurn → List ℕ → Memory → HypervisorDid
+abbrev pub hypervisor_did : Part Outcome → List ℕ → Memory → HypervisorDid
 hypervisor_did t ledger m = record { turn = t; ledger = ledger; memory = m }
 
 -- an expand that adds a page zeroes it
@@ -146,10 +149,10 @@ perform_hypervisor n d ledger m = perform_hypervisor_next n d ledger m (due_of n
 -- ---- the guest's part
 
 pub record GuestDid : Type 0 where
-  pub turn : GuestTurn
+  pub turn : Part GuestOutcome
   pub memory : Memory
 
-abbrev pub guest_did : GuestTurn → Memory → GuestDid
+abbrev pub guest_did : Part GuestOutcome → Memory → GuestDid
 guest_did t m = record { turn = t; memory = m }
 
 abbrev pub guest_replied : GuestOutcome → Event → Memory → GuestDid
@@ -167,10 +170,10 @@ unfoldable pub perform_guest : ℕ → Guest → Memory → GuestDid
 perform_guest n g m = perform_guest_next n g m (guest_due_of n g)
 
 -- a mask with its access
-abbrev pub perform_masking : Guest → Memory → Masking → GuestDid
-perform_masking g m (masking.Refused a count) = guest_replied (record { guest = g; next = next.Answer a count }) Nothing m
-perform_masking g m (masking.Made access a count) =
-    guest_replied (record { guest = g; next = next.Answer a count }) (MaskAccess access (performed m access).seen) (performed m access).memory
+abbrev pub perform_masking : Guest → Memory → Result Made Refused → GuestDid
+perform_masking g m (Err r) = guest_replied (record { guest = g; next = next.Answer r.answer r.count }) Nothing m
+perform_masking g m (Ok x) =
+    guest_replied (record { guest = g; next = next.Answer x.answer x.count }) (MaskAccess x.access (performed m x.access).seen) (performed m x.access).memory
 
 unfoldable pub perform_mask : ℕ → Guest → Memory → Port → GuestDid
 perform_mask n g m p = perform_masking g m (mask_of n p g.words)

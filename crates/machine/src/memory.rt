@@ -3,52 +3,55 @@
 ghost use Rattle.std.specs.Prelude.{◌≡◌, get_or, set};
 ghost use Rattle.machine.specs.Memory.{place_of, after_access, memory, loaded, saved, performed, did, zero_page};
 
+use calls::records::put_at;
 use calls::types::{Access, Place};
+use word::effect::{after_and, after_cas, after_or, after_read, after_store, after_swap};
 
 // The word at an index; 0 past the end.
 pub fn word_at(words: &[u32], at: usize) -> u32
     ensures { result ≡ get_or words.now at 0 }
 {
-    if at < words.len() { words[at] } else { 0 }
+    words.get(at).copied().unwrap_or(0)
 }
 
 // Another word at an index; no change past the end.
 pub fn put_word(words: &mut [u32], at: usize, value: u32)
     ensures { words.new ≡ set words.old at value }
 {
-    if at < words.len() {
-        words[at] = value;
-    }
+    put_at(words, at, value);
 }
 
+#[tactic(auto, unfolding(crate::specs::Memory::place_of))]
 pub fn place_of(access: Access) -> Place
     ensures { result ≡ place_of access }
 {
     match access {
-        Access::Read(place) => place,
-        Access::Store(place, _) => place,
-        Access::Or(place, _) => place,
-        Access::And(place, _) => place,
-        Access::Swap(place, _) => place,
-        Access::Cas(place, _, _) => place,
+        Access::Read(place)
+        | Access::Store(place, _)
+        | Access::Or(place, _)
+        | Access::And(place, _)
+        | Access::Swap(place, _)
+        | Access::Cas(place, _, _) => place,
     }
 }
 
 // What an access leaves of the word.
+#[tactic(auto, unfolding(crate::specs::Memory::after_access))]
 pub fn after_access(access: Access, word: u32) -> u32
     ensures { result ≡ after_access access word }
 {
     match access {
-        Access::Read(_) => word::effect::after_read(word),
-        Access::Store(_, value) => word::effect::after_store(word, value),
-        Access::Or(_, operand) => word::effect::after_or(word, operand),
-        Access::And(_, operand) => word::effect::after_and(word, operand),
-        Access::Swap(_, value) => word::effect::after_swap(word, value),
-        Access::Cas(_, old, new) => word::effect::after_cas(word, old, new),
+        Access::Read(_) => after_read(word),
+        Access::Store(_, value) => after_store(word, value),
+        Access::Or(_, operand) => after_or(word, operand),
+        Access::And(_, operand) => after_and(word, operand),
+        Access::Swap(_, value) => after_swap(word, value),
+        Access::Cas(_, old, new) => after_cas(word, old, new),
     }
 }
 
 // The word at a place.
+#[tactic(auto, unfolding(crate::specs::Memory::loaded))]
 pub fn loaded(words: &[u32], block: &[u32], place: Place) -> u32
     ensures { result ≡ loaded (memory words.now block.now) place }
 {
@@ -60,6 +63,7 @@ pub fn loaded(words: &[u32], block: &[u32], place: Place) -> u32
 }
 
 // Another word at a place.
+#[tactic(auto, unfolding(crate::specs::Memory::saved))]
 pub fn saved(words: &mut [u32], block: &mut [u32], place: Place, value: u32)
     ensures { memory words.new block.new ≡ saved (memory words.old block.old) place value }
 {
@@ -71,6 +75,7 @@ pub fn saved(words: &mut [u32], block: &mut [u32], place: Place, value: u32)
 }
 
 // One access is made; the word seen comes back.
+#[tactic(auto, unfolding(crate::specs::Memory::performed))]
 pub fn perform(words: &mut [u32], block: &mut [u32], access: Access) -> u32
     ensures { did (memory words.new block.new) result ≡ performed (memory words.old block.old) access }
 {
@@ -86,9 +91,7 @@ pub fn zero_page(words: &mut [u32], page: u32)
     ensures { words.new ≡ zero_page page words.old }
 {
     let first = page as usize * 1024;
-    let mut i = 0;
-    while i < 1024 {
+    for i in 0..1024 {
         put_word(words, first + i, 0);
-        i += 1;
     }
 }

@@ -1,233 +1,192 @@
-// One step of the machine, and a whole call with a budget.
+// One step of the machine, and a whole call with a budget. Ledger, words and control block stay parameters beside one another: a struct
+// of such lent slices would need a clause in each contract for each of them, that it still holds the same reference.
 ghost use Rattle.std.specs.Prelude.{◌≡◌};
 ghost use Rattle.word.specs.Word.{link_bits};
 ghost use Rattle.machine.specs.Memory.{memory};
-ghost use Rattle.machine.specs.Exec.{hypervisor_answer, guest_answer, hypervisor_advance, guest_advance, expand_did, expand_of, started, start_of, hypervisor_did, perform_hypervisor, guest_did, guest_access, perform_guest, perform_mask, guest_start_of, world, advanced, perform_side, replied, hand_back, advance_of, is_answer, ran, run_of};
+ghost use Rattle.machine.specs.declared.types.Event.TheVariants.{Nothing};
+ghost use Rattle.machine.specs.Exec.{answer_event, hypervisor_advance, guest_advance, expand_did, expand_of, started, start_of, hypervisor_did, perform_hypervisor, guest_did, guest_access, perform_guest, perform_mask, guest_start_of, world, advanced, perform_side, replied, hand_back, advance_of, is_answer, ran, run_of};
 
-use crate::memory;
-use crate::types::{
-    Advance, Event, Finish, GuestStart, GuestTurn, HypervisorTurn, Side, Sides, Start, Step,
-};
-use calls::types::{Access, Domain, Guest, GuestOutcome, Masking, Next, Outcome};
+use crate::memory::{self, zero_page};
+use crate::types::{Advance, Event, Finish, GuestStart, Part, Side, Sides, Start, Step};
+use calls::clear_mask::{clear_mask, guest_due, guest_reply};
+use calls::guest::{service, tell};
+use calls::hypervisor;
+use calls::records::is_clearing;
+use calls::types::{Access, Domain, Guest, GuestOutcome, Next, Outcome};
 use word::Port;
 
-// The answer that a hypervisor's call or reply gives, if it gives one.
-pub fn hypervisor_answer(next: Next) -> Event
-    ensures { result ≡ hypervisor_answer next }
+// The answer that a side's call or reply gives, if it gives one.
+pub fn answer_event(side: Side, next: Next) -> Event
+    ensures { result ≡ answer_event side next }
 {
     let Next::Answer(answer, count) = next else {
         return Event::Nothing;
     };
-    Event::HypervisorAnswer(answer, count)
-}
-
-pub fn guest_answer(next: Next) -> Event
-    ensures { result ≡ guest_answer next }
-{
-    let Next::Answer(answer, count) = next else {
-        return Event::Nothing;
-    };
-    Event::GuestAnswer(answer, count)
-}
-
-pub fn hypervisor_advance(turn: HypervisorTurn, guest: Guest) -> Advance
-    ensures { result ≡ hypervisor_advance turn guest }
-{
-    let outcome = turn.outcome;
-    let access = turn.access;
-    let domain = outcome.domain;
-    let next = outcome.next;
-    let answer = hypervisor_answer(next);
-    let sides = Sides {
-        domain: domain,
-        guest: guest,
-    };
-    Advance {
-        sides: sides,
-        access: access,
-        answer: answer,
+    match side {
+        Side::Hypervisor => Event::HypervisorAnswer(answer, count),
+        Side::Guest => Event::GuestAnswer(answer, count),
     }
 }
 
-pub fn guest_advance(turn: GuestTurn, domain: Domain) -> Advance
-    ensures { result ≡ guest_advance turn domain }
+// A part with no access before it.
+fn at_once<O: Drop>(outcome: O) -> Part<O>
+    ensures { (result.outcome ≡ outcome) × (result.access ≡ Nothing) }
 {
-    let outcome = turn.outcome;
-    let access = turn.access;
-    let guest = outcome.guest;
-    let next = outcome.next;
-    let answer = guest_answer(next);
-    let sides = Sides {
-        domain: domain,
-        guest: guest,
-    };
+    Part {
+        outcome,
+        access: Event::Nothing,
+    }
+}
+
+// The step of a side's part. The two stay apart: a trait over the outcomes would be longer than both.
+pub fn hypervisor_advance(part: Part<Outcome>, guest: Guest) -> Advance
+    ensures { result ≡ hypervisor_advance part guest }
+{
     Advance {
-        sides: sides,
-        access: access,
-        answer: answer,
+        sides: Sides {
+            domain: part.outcome.domain,
+            guest,
+        },
+        access: part.access,
+        answer: answer_event(Side::Hypervisor, part.outcome.next),
+    }
+}
+
+pub fn guest_advance(part: Part<GuestOutcome>, domain: Domain) -> Advance
+    ensures { result ≡ guest_advance part domain }
+{
+    Advance {
+        sides: Sides {
+            domain,
+            guest: part.outcome.guest,
+        },
+        access: part.access,
+        answer: answer_event(Side::Guest, part.outcome.next),
     }
 }
 
 // An expand_array that adds a page zeroes it.
+#[tactic(auto, unfolding(crate::specs::Exec::expand_of))]
 pub fn expand(domain: Domain, words: &mut [u32], frame: u64, frames: u64) -> Outcome
     ensures { expand_did result words.new ≡ expand_of link_bits domain words.old frame frames }
 {
-    let outcome = calls::hypervisor::expand_array(domain, frame, frames);
-    let larger = outcome.domain;
-    let added = domain.pages < larger.pages;
-    if added {
-        memory::zero_page(words, domain.pages);
+    let outcome = hypervisor::expand_array(domain, frame, frames);
+    if domain.pages < outcome.domain.pages {
+        zero_page(words, domain.pages);
     }
     outcome
 }
 
 // A hypervisor's call starts.
+#[tactic(auto, unfolding(crate::specs::Exec::start_of))]
 pub fn start(domain: Domain, ledger: &mut [u16], words: &mut [u32], start: Start) -> Outcome
     ensures { started result ledger.new words.new ≡ start_of link_bits domain ledger.old words.old start }
 {
     match start {
         Start::InitControl(vcpu, frame, frames, offset) => {
-            calls::hypervisor::init_control(domain, vcpu, frame, frames, offset)
+            hypervisor::init_control(domain, vcpu, frame, frames, offset)
         }
         Start::ExpandArray(frame, frames) => expand(domain, words, frame, frames),
-        Start::Bind(port) => calls::hypervisor::bind(domain, ledger, port),
-        Start::Close(port) => calls::hypervisor::close(domain, ledger, port),
+        Start::Bind(port) => hypervisor::bind(domain, ledger, port),
+        Start::Close(port) => hypervisor::close(domain, ledger, port),
         Start::SetPriority(port, priority) => {
-            calls::hypervisor::set_priority(domain, ledger, port, priority)
+            hypervisor::set_priority(domain, ledger, port, priority)
         }
-        Start::Raise(port) => calls::hypervisor::raise(domain, ledger, port),
-        Start::Unmask(port) => calls::hypervisor::unmask(domain, ledger, port),
+        Start::Raise(port) => hypervisor::raise(domain, ledger, port),
+        Start::Unmask(port) => hypervisor::unmask(domain, ledger, port),
     }
 }
 
 // The access that a domain's call waits for is made and replied to; a reply of 0 alone where no call is under way.
+#[tactic(auto, unfolding(crate::specs::Exec::perform_hypervisor))]
 pub fn perform_hypervisor(
     domain: Domain,
     ledger: &mut [u16],
     words: &mut [u32],
     block: &mut [u32],
-) -> HypervisorTurn
+) -> Part<Outcome>
     ensures { hypervisor_did result ledger.new (memory words.new block.new) ≡ perform_hypervisor link_bits domain ledger.old (memory words.old block.old) }
 {
-    let call = domain.call;
-    let due = calls::hypervisor::due(domain);
-    let Next::Access(access) = due else {
-        let refused = calls::hypervisor::reply(domain, ledger, 0);
-        return HypervisorTurn {
-            outcome: refused,
-            access: Event::Nothing,
-        };
+    let Next::Access(access) = hypervisor::due(domain) else {
+        return at_once(hypervisor::reply(domain, ledger, 0));
     };
     let seen = memory::perform(words, block, access);
-    let outcome = calls::hypervisor::reply(domain, ledger, seen);
-    HypervisorTurn {
-        outcome: outcome,
-        access: Event::HypervisorAccess(call, access, seen),
+    Part {
+        outcome: hypervisor::reply(domain, ledger, seen),
+        access: Event::HypervisorAccess(domain.call, access, seen),
     }
 }
 
 // A guest's access as an event: the clear_mask's while one is under way, else the service's.
+#[tactic(auto, unfolding(crate::specs::Exec::guest_access))]
 pub fn guest_access(guest: Guest, access: Access, seen: u32) -> Event
     ensures { result ≡ guest_access guest access seen }
 {
-    let clear = guest.clear;
-    let stage = clear.stage;
-    let clearing = calls::records::is_clearing(stage);
-    if clearing {
-        return Event::ClearAccess(clear, access, seen);
+    if is_clearing(guest.clear.stage) {
+        return Event::ClearAccess(guest.clear, access, seen);
     }
-    let call = guest.call;
-    Event::GuestAccess(call, access, seen)
+    Event::GuestAccess(guest.call, access, seen)
 }
 
 // The access that a guest waits for is made and replied to; a reply of 0 alone where neither a service nor a clear_mask is under
 // way.
-pub fn perform_guest(guest: Guest, words: &mut [u32], block: &mut [u32]) -> GuestTurn
+#[tactic(auto, unfolding(crate::specs::Exec::perform_guest))]
+pub fn perform_guest(guest: Guest, words: &mut [u32], block: &mut [u32]) -> Part<GuestOutcome>
     ensures { guest_did result (memory words.new block.new) ≡ perform_guest link_bits guest (memory words.old block.old) }
 {
-    let due = calls::clear_mask::guest_due(guest);
-    let Next::Access(access) = due else {
-        let refused = calls::clear_mask::guest_reply(guest, 0);
-        return GuestTurn {
-            outcome: refused,
-            access: Event::Nothing,
-        };
+    let Next::Access(access) = guest_due(guest) else {
+        return at_once(guest_reply(guest, 0));
     };
     let seen = memory::perform(words, block, access);
-    let outcome = calls::clear_mask::guest_reply(guest, seen);
-    let event = guest_access(guest, access, seen);
-    GuestTurn {
-        outcome: outcome,
-        access: event,
+    Part {
+        outcome: guest_reply(guest, seen),
+        access: guest_access(guest, access, seen),
     }
 }
 
 // A mask: its access is made at once.
-pub fn mask(guest: Guest, words: &mut [u32], block: &mut [u32], port: Port) -> GuestTurn
+#[tactic(auto, unfolding(crate::specs::Exec::perform_mask))]
+pub fn mask(guest: Guest, words: &mut [u32], block: &mut [u32], port: Port) -> Part<GuestOutcome>
     ensures { guest_did result (memory words.new block.new) ≡ perform_mask link_bits guest (memory words.old block.old) port }
 {
-    let masking = calls::guest::mask(port, guest.words);
-    match masking {
-        Masking::Refused(answer, count) => {
-            let outcome = GuestOutcome {
-                guest: guest,
-                next: Next::Answer(answer, count),
-            };
-            GuestTurn {
-                outcome: outcome,
-                access: Event::Nothing,
-            }
-        }
-        Masking::Made(access, answer, count) => {
-            let seen = memory::perform(words, block, access);
-            let outcome = GuestOutcome {
-                guest: guest,
-                next: Next::Answer(answer, count),
-            };
-            GuestTurn {
-                outcome: outcome,
-                access: Event::MaskAccess(access, seen),
+    match calls::guest::mask(port, guest.words) {
+        Err(refused) => at_once(GuestOutcome {
+            guest,
+            next: Next::Answer(refused.answer, refused.count),
+        }),
+        Ok(made) => {
+            let seen = memory::perform(words, block, made.access);
+            Part {
+                outcome: GuestOutcome {
+                    guest,
+                    next: Next::Answer(made.answer, made.count),
+                },
+                access: Event::MaskAccess(made.access, seen),
             }
         }
     }
 }
 
 // A guest's call starts; a mask is made whole.
+#[tactic(auto, unfolding(crate::specs::Exec::guest_start_of))]
 pub fn guest_start(
     guest: Guest,
     words: &mut [u32],
     block: &mut [u32],
     start: GuestStart,
-) -> GuestTurn
+) -> Part<GuestOutcome>
     ensures { guest_did result (memory words.new block.new) ≡ guest_start_of link_bits guest (memory words.old block.old) start }
 {
     match start {
-        GuestStart::Service => {
-            let outcome = calls::guest::service(guest);
-            GuestTurn {
-                outcome: outcome,
-                access: Event::Nothing,
-            }
-        }
+        GuestStart::Service => at_once(service(guest)),
         GuestStart::Mask(port) => mask(guest, words, block, port),
-        GuestStart::ClearMask(port) => {
-            let outcome = calls::clear_mask::clear_mask(guest, port);
-            GuestTurn {
-                outcome: outcome,
-                access: Event::Nothing,
-            }
-        }
-        GuestStart::Tell(count) => {
-            let outcome = calls::guest::tell(guest, count);
-            GuestTurn {
-                outcome: outcome,
-                access: Event::Nothing,
-            }
-        }
+        GuestStart::ClearMask(port) => at_once(clear_mask(guest, port)),
+        GuestStart::Tell(count) => at_once(tell(guest, count)),
     }
 }
 
 // One step.
+#[tactic(auto, unfolding(crate::specs::Exec::advance_of))]
 pub fn advance(
     sides: Sides,
     ledger: &mut [u16],
@@ -237,22 +196,14 @@ pub fn advance(
 ) -> Advance
     ensures { advanced result ledger.new (memory words.new block.new) ≡ advance_of link_bits (world sides ledger.old (memory words.old block.old)) step }
 {
-    let domain = sides.domain;
-    let guest = sides.guest;
     match step {
         Step::Hypervisor(call) => {
-            let outcome = start(domain, ledger, words, call);
-            hypervisor_advance(
-                HypervisorTurn {
-                    outcome: outcome,
-                    access: Event::Nothing,
-                },
-                guest,
-            )
+            let outcome = start(sides.domain, ledger, words, call);
+            hypervisor_advance(at_once(outcome), sides.guest)
         }
         Step::Guest(call) => {
-            let turn = guest_start(guest, words, block, call);
-            guest_advance(turn, domain)
+            let part = guest_start(sides.guest, words, block, call);
+            guest_advance(part, sides.domain)
         }
         Step::Perform(side) => perform_side(sides, ledger, words, block, side),
         Step::HandBack(side, word) => hand_back(sides, ledger, side, word),
@@ -260,6 +211,7 @@ pub fn advance(
 }
 
 // The access that a side's call waits for, with its reply.
+#[tactic(auto, unfolding(crate::specs::Exec::perform_side))]
 pub fn perform_side(
     sides: Sides,
     ledger: &mut [u16],
@@ -269,47 +221,26 @@ pub fn perform_side(
 ) -> Advance
     ensures { advanced result ledger.new (memory words.new block.new) ≡ perform_side link_bits (world sides ledger.old (memory words.old block.old)) side }
 {
-    let domain = sides.domain;
-    let guest = sides.guest;
     match side {
         Side::Hypervisor => {
-            let turn = perform_hypervisor(domain, ledger, words, block);
-            hypervisor_advance(turn, guest)
+            let part = perform_hypervisor(sides.domain, ledger, words, block);
+            hypervisor_advance(part, sides.guest)
         }
-        Side::Guest => {
-            let turn = perform_guest(guest, words, block);
-            guest_advance(turn, domain)
-        }
+        Side::Guest => guest_advance(perform_guest(sides.guest, words, block), sides.domain),
     }
 }
 
 // A side's reply alone, with any word.
+#[tactic(auto, unfolding(crate::specs::Exec::hand_back))]
 pub fn hand_back(sides: Sides, ledger: &mut [u16], side: Side, word: u32) -> Advance
     ensures { replied result ledger.new ≡ hand_back link_bits sides.domain sides.guest ledger.old side word }
 {
-    let domain = sides.domain;
-    let guest = sides.guest;
     match side {
         Side::Hypervisor => {
-            let outcome = calls::hypervisor::reply(domain, ledger, word);
-            hypervisor_advance(
-                HypervisorTurn {
-                    outcome: outcome,
-                    access: Event::Nothing,
-                },
-                guest,
-            )
+            let outcome = hypervisor::reply(sides.domain, ledger, word);
+            hypervisor_advance(at_once(outcome), sides.guest)
         }
-        Side::Guest => {
-            let outcome = calls::clear_mask::guest_reply(guest, word);
-            guest_advance(
-                GuestTurn {
-                    outcome: outcome,
-                    access: Event::Nothing,
-                },
-                domain,
-            )
-        }
+        Side::Guest => guest_advance(at_once(guest_reply(sides.guest, word)), sides.domain),
     }
 }
 
@@ -317,15 +248,10 @@ pub fn hand_back(sides: Sides, ledger: &mut [u16], side: Side, word: u32) -> Adv
 pub fn is_answer(event: Event) -> bool
     ensures { result ≡ is_answer event }
 {
-    match event {
-        Event::Nothing => false,
-        Event::HypervisorAccess(_, _, _) => false,
-        Event::GuestAccess(_, _, _) => false,
-        Event::ClearAccess(_, _, _) => false,
-        Event::MaskAccess(_, _) => false,
-        Event::HypervisorAnswer(_, _) => true,
-        Event::GuestAnswer(_, _) => true,
-    }
+    matches!(
+        event,
+        Event::HypervisorAnswer(_, _) | Event::GuestAnswer(_, _)
+    )
 }
 
 // A side's accesses until an answer comes, at most `budget` of them: the records afterwards, and the answer, which is
@@ -341,20 +267,15 @@ pub fn run(
     ensures { ran (world result.sides ledger.new (memory words.new block.new)) result.answer ≡ run_of link_bits budget (world sides ledger.old (memory words.old block.old)) side }
 {
     let mut current = sides;
-    let mut left = budget;
-    while 0 < left {
+    for turn in 0..budget {
         let advance = perform_side(current, ledger, words, block, side);
-        let answer = advance.answer;
-        let after = advance.sides;
-        current = after;
-        let over = is_answer(answer);
-        if over {
+        current = advance.sides;
+        if is_answer(advance.answer) {
             return Finish {
                 sides: current,
-                answer: answer,
+                answer: advance.answer,
             };
         }
-        left -= 1;
     }
     Finish {
         sides: current,

@@ -1,5 +1,6 @@
 -- An expand with the page that it adds and the guest's number of words, and a mask with its access, come to `begins`.
 -- Assumes nothing.
+use Rattle.std.specs.Prelude.{Ok, Err}
 use Prim.Native.Nat.{ℕ, ◌+◌, ◌*◌, ◌≤◌, ◌<◌}
 use mathlib.Core.Path.{◌≡◌, refl, ap, ◌∙◌, sym, subst}
 use mathlib.Core.Bool.{Bool, true, false, cond, not, false≢true}
@@ -17,9 +18,7 @@ use Rattle.calls.specs.declared.types.Access.TheVariants.{Or}
 use Rattle.calls.specs.declared.types.Answer.TheVariants.{Done, BadPort, OutsideArray, CallUnderWay, NotGiven, TooManyPages, BadFrame}
 use Rattle.calls.specs.declared.types.Next.{Next}
 use Rattle.calls.specs.declared.types.Next.TheVariants as next
-use Rattle.calls.specs.declared.types.Masking.TheVariants as masking
 use Rattle.calls.specs.declared.types.Domain.{Domain}
-use Rattle.calls.specs.declared.hypervisor.start.Acceptance.TheVariants as acceptance
 use Rattle.calls.specs.Answers.{code_of}
 use Rattle.calls.specs.Records.{one_more, is_free, is_port}
 use Rattle.calls.specs.Hypervisor.{accept_expand, expand_array_of, expand_array}
@@ -70,8 +69,8 @@ one_more_by true pages h = omega arith
 one_more_by false pages h = omega arith
 
 accepted_pages : (a b c d : Bool) (x : Domain) → leb 128 x.pages ≡ c →
-    ltb x.pages (expand_array_of x (cond a (acceptance.Refused CallUnderWay) (cond b (acceptance.Refused NotGiven) (cond c (acceptance.Refused TooManyPages) (cond d (acceptance.Refused BadFrame) acceptance.Accepted))))).domain.pages ≡ true →
-    (expand_array_of x (cond a (acceptance.Refused CallUnderWay) (cond b (acceptance.Refused NotGiven) (cond c (acceptance.Refused TooManyPages) (cond d (acceptance.Refused BadFrame) acceptance.Accepted))))).domain.pages ≤ 128
+    ltb x.pages (expand_array_of x (cond a (Err CallUnderWay) (cond b (Err NotGiven) (cond c (Err TooManyPages) (cond d (Err BadFrame) (Ok tt)))))).domain.pages ≡ true →
+    (expand_array_of x (cond a (Err CallUnderWay) (cond b (Err NotGiven) (cond c (Err TooManyPages) (cond d (Err BadFrame) (Ok tt)))))).domain.pages ≤ 128
 unfolding one_more
 accepted_pages true b c d x e h = omega (arith, ltb-true x.pages x.pages h)
 accepted_pages false true c d x e h = omega (arith, ltb-true x.pages x.pages h)
@@ -207,7 +206,7 @@ module _ (d t g ws b : List ℕ) (domain-long : domain_size ≤ length d) (guest
     no_access : {A : Type 0} (a : Access) → ltb (encoded_access a).code 0x100 ≡ true → A
     no_access a h = absurd (false≢true (sym (access_number a) ∙ h))
 
-    masking_by : (q : Port) (bad outside : Bool) → Refused (encoded_masking (cond bad (masking.Refused BadPort 0) (cond outside (masking.Refused OutsideArray 0) (masking.Made (Or (place.Word q) (mask Masked)) Done 1))))
+    masking_by : (q : Port) (bad outside : Bool) → Refused (encoded_masking (cond bad (Err (record { answer = BadPort; count = 0 })) (cond outside (Err (record { answer = OutsideArray; count = 0 })) (Ok (record { access = Or (place.Word q) (mask Masked); answer = Done; count = 1 })))))
     unfolding encoded_masking encoded_answer code_of decoded_next decoded_answer due_after line_of answer_line result_due
     masking_by q true outside = λ h. refl
     masking_by q false true = λ h. refl

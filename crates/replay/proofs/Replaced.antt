@@ -1,6 +1,7 @@
 -- In a log that agrees, another line in place of one that is due, or another access of the same side, differs there; and so does
 -- any other line right after a mask's.
 -- Assumes nothing.
+use Rattle.std.specs.Prelude.{Result, Ok, Err}
 use Prim.Native.Nat.{ℕ, ◌+◌, ◌≤◌, ◌<◌}
 use native.Mathlib.Omega.{arith}
 use native.Mathlib.Nat.{zero-add, add_assoc}
@@ -10,8 +11,8 @@ use mathlib.Core.Bool.{Bool, true, false, cond}
 use mathlib.Core.List.{List, [], ◌∷◌, ◌++◌, map}
 use lib.ListN.{length}
 use Rattle.word.specs.declared.Port.{Port}
-use Rattle.calls.specs.declared.types.Masking.{Masking}
-use Rattle.calls.specs.declared.types.Masking.TheVariants as masking
+use Rattle.calls.specs.declared.types.Made.{Made}
+use Rattle.calls.specs.declared.types.Refused.{Refused}
 use Rattle.calls.specs.Guest.{mask_of}
 use Rattle.machine.specs.declared.types.Side.{Side}
 use Rattle.machine.specs.declared.types.Step.TheVariants as step
@@ -167,10 +168,10 @@ Waits (playing w [] k) = ⊥
 Waits (playing w (d ∷ ds) k) = Unit {0}
 Waits (stopped r d) = ⊥
 
-mask_waits : (k : ℕ) (w v : World) (x : Masking) → Waits (playing v (due_after (step_of (guest_step w (perform_masking w.guest w.memory x))).events) k)
+mask_waits : (k : ℕ) (w v : World) (x : Result Made Refused) → Waits (playing v (due_after (step_of (guest_step w (perform_masking w.guest w.memory x))).events) k)
 unfolding due_after line_of
-mask_waits k w v (masking.Refused a count) = tt
-mask_waits k w v (masking.Made x a count) = tt
+mask_waits k w v (Err r) = tt
+mask_waits k w v (Ok y) = tt
 
 mask_opens : (n : ℕ) (w : World) (k : ℕ) (text : List ℕ) (p : Port) → Waits (opens n w k text (line.Call (Mask p)))
 unfolding opens adds ran step_of_call advance_of guest_start_of perform_mask

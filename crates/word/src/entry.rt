@@ -11,6 +11,7 @@ pub fn fresh_entry() -> u16
     7
 }
 
+#[tactic(auto, unfolding(crate::specs::Entry::priority, crate::specs::Bits::field))]
 pub fn priority_of(entry: u16) -> Priority
     ensures { result ≡ priority_at (priority entry) }
 {
@@ -24,24 +25,28 @@ pub fn queue_of(priority: Priority) -> Queue
     Queue(priority.0)
 }
 
+#[tactic(auto, unfolding(crate::specs::Entry::last_queue, crate::specs::Bits::field))]
 pub fn last_queue(entry: u16) -> Queue
     ensures { result ≡ queue_at (last_queue entry) }
 {
     Queue((entry / 16 % 16) as u32)
 }
 
+#[tactic(auto, unfolding(crate::specs::Entry::bound, crate::specs::Bits::bit, crate::specs::Bits::field))]
 pub fn is_bound(entry: u16) -> bool
     ensures { result ≡ bound entry }
 {
     entry / 256 % 2 == 1
 }
 
+#[tactic(auto, unfolding(crate::specs::Entry::ever_linked, crate::specs::Bits::bit, crate::specs::Bits::field))]
 pub fn has_been_linked(entry: u16) -> bool
     ensures { result ≡ ever_linked entry }
 {
     entry / 512 % 2 == 1
 }
 
+#[tactic(auto, unfolding(crate::specs::Entry::with_priority, crate::specs::Bits::with_field))]
 pub fn with_priority(entry: u16, priority: Priority) -> u16
     ensures { result ≡ with_priority entry priority.0 }
 {
@@ -49,6 +54,7 @@ pub fn with_priority(entry: u16, priority: Priority) -> u16
 }
 
 // The entry of a port that becomes bound.
+#[tactic(auto, unfolding(crate::specs::Entry::bound_entry, crate::specs::Bits::with_field))]
 pub fn bound_entry(entry: u16) -> u16
     ensures { result ≡ bound_entry entry }
 {
@@ -56,6 +62,7 @@ pub fn bound_entry(entry: u16) -> u16
 }
 
 // The entry of a port that is closed: not bound, priority 7.
+#[tactic(auto, unfolding(crate::specs::Entry::closed_entry, crate::specs::Bits::with_field))]
 pub fn closed_entry(entry: u16) -> u16
     ensures { result ≡ closed_entry entry }
 {
@@ -63,6 +70,7 @@ pub fn closed_entry(entry: u16) -> u16
 }
 
 // The entry of a port that is linked on a queue (R2): the last queue, and has been linked.
+#[tactic(auto, using(crate::proofs::EntryLaws::linked_digits))]
 pub fn linked_entry(entry: u16, queue: Queue) -> u16
     ensures { result ≡ linked_entry entry queue.0 }
 {

@@ -17,6 +17,7 @@ pub fn link_bits() -> u32
 }
 
 // The operand of an or that sets a flag.
+#[tactic(auto, unfolding(crate::specs::Word::mask))]
 pub fn mask(flag: Flag) -> u32
     ensures { result ≡ mask flag }
 {
@@ -29,24 +30,22 @@ pub fn mask(flag: Flag) -> u32
 }
 
 // The operand of an and that clears a flag.
+#[tactic(auto, unfolding(crate::specs::Word::all_but, crate::specs::Word::mask))]
 pub fn all_but(flag: Flag) -> u32
     ensures { result ≡ all_but flag }
 {
-    match flag {
-        Flag::Pending => 0x7FFF_FFFF,
-        Flag::Masked => 0xBFFF_FFFF,
-        Flag::Linked => 0xDFFF_FFFF,
-        Flag::Busy => 0xEFFF_FFFF,
-    }
+    !mask(flag)
 }
 
 // The operand of the and that clears LINKED and LINK at once (G2).
+#[tactic(auto, unfolding(crate::specs::Word::unlink_operand))]
 pub fn unlink_operand() -> u32
     ensures { result ≡ unlink_operand link_bits }
 {
     0xE000_0000 - LINKS
 }
 
+#[tactic(auto, using(crate::proofs::WordLaws::flag_test))]
 pub fn has(word: u32, flag: Flag) -> bool
     ensures { result ≡ has flag word }
 {
@@ -54,6 +53,7 @@ pub fn has(word: u32, flag: Flag) -> bool
 }
 
 // The port that LINK names; 0 ends a chain.
+#[tactic(auto, unfolding(crate::specs::Word::link, crate::specs::Bits::field))]
 pub fn link(word: u32) -> Port
     ensures { result ≡ port_at (link link_bits word) }
 {
@@ -61,6 +61,7 @@ pub fn link(word: u32) -> Port
 }
 
 // The word with another LINK and every other bit as found.
+#[tactic(auto, unfolding(crate::specs::Word::with_link, crate::specs::Bits::with_field))]
 pub fn with_link(word: u32, port: Port) -> u32
     ensures { result ≡ with_link link_bits word port.0 }
 {

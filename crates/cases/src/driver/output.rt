@@ -2,6 +2,7 @@
 use crate::driver::run::due;
 use access_log::event::Logged;
 use access_log::line::{Line, Written};
+use calls::answer::Code;
 use calls::types::{Answer, Next};
 use machine::types::{Event, Side, Sides, Step};
 use std::io;
@@ -60,7 +61,7 @@ pub(crate) struct Answered {
 }
 
 fn with_number(answer: Answer, count: u32) -> Answered {
-    let code = calls::answer::code_of(answer);
+    let code = Code::from(answer);
     Answered {
         given: true,
         number: code.number,

@@ -4,4 +4,4 @@ use Rattle.access_log.proofs.event.answer_line.Goals as goal
 
 pub returns : goal.returns
 unfolding answer_line
-returns c = simp (c.code_line.ensures, c.code_of-code.ensures)
+returns c = simp (c.code_line.ensures, c.from-code.ensures)

@@ -16,12 +16,12 @@ returns-then-bad c = simp (← c.given_in-ungiven.ensures, c.if-ungiven.false-ra
 
 pub returns-then-bound : goal.returns-then-bound
 unfolding port_refusal_bytes refusal_by accept_port is_free code_of
-returns-then-bound c = simp (← c.given_in-ungiven.ensures, c.if-ungiven.false-raw, ← c.is_port-bad.ensures, c.if-bad.false-raw, ← c.entry_in.ensures, c.in-Found.is, ← c.is_bound-bound.ensures, c.if-bound.true)
+returns-then-bound c = simp (← c.given_in-ungiven.ensures, c.if-ungiven.false-raw, ← c.is_port-bad.ensures, c.if-bad.false-raw, ← c.entry_in.ensures, c.in-Some.is, ← c.is_bound-bound.ensures, c.if-bound.true)
 
-pub returns-in-Missing : goal.returns-in-Missing
+pub returns-in-None : goal.returns-in-None
 unfolding port_refusal_bytes refusal_by accept_port is_free code_of
-returns-in-Missing c = simp (← c.given_in-ungiven.ensures, c.if-ungiven.false-raw, ← c.is_port-bad.ensures, c.if-bad.false-raw, ← c.entry_in.ensures, c.in-Missing.is)
+returns-in-None c = simp (← c.given_in-ungiven.ensures, c.if-ungiven.false-raw, ← c.is_port-bad.ensures, c.if-bad.false-raw, ← c.entry_in.ensures, c.in-None.is)
 
 pub returns-else-bound : goal.returns-else-bound
 unfolding port_refusal_bytes refusal_by accept_port is_free code_of
-returns-else-bound c = simp (← c.given_in-ungiven.ensures, c.if-ungiven.false-raw, ← c.is_port-bad.ensures, c.if-bad.false-raw, ← c.entry_in.ensures, c.in-Found.is, ← c.is_bound-bound.ensures, c.if-bound.false)
+returns-else-bound c = simp (← c.given_in-ungiven.ensures, c.if-ungiven.false-raw, ← c.is_port-bad.ensures, c.if-bad.false-raw, ← c.entry_in.ensures, c.in-Some.is, ← c.is_bound-bound.ensures, c.if-bound.false)

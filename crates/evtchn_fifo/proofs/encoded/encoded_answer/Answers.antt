@@ -4,4 +4,4 @@ use Rattle.evtchn_fifo.proofs.encoded.encoded_answer.Goals as goal
 
 pub returns : goal.returns
 unfolding encoded_answer
-returns c = simp (c.packed.ensures, c.code_of-code.ensures)
+returns c = simp (c.packed.ensures, c.from-code.ensures)

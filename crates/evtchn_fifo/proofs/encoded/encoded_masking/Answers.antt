@@ -2,10 +2,10 @@
 use Rattle.evtchn_fifo.specs.Encoded.{encoded_masking}
 use Rattle.evtchn_fifo.proofs.encoded.encoded_masking.Goals as goal
 
-pub returns-in-Made : goal.returns-in-Made
+pub returns-in-Ok : goal.returns-in-Ok
 unfolding encoded_masking
-returns-in-Made c = simp (c.in-Made.is, c.encoded_access.ensures)
+returns-in-Ok c = simp (c.in-Ok.is, c.encoded_access.ensures)
 
-pub returns-in-Refused : goal.returns-in-Refused
+pub returns-in-Err : goal.returns-in-Err
 unfolding encoded_masking
-returns-in-Refused c = simp (c.in-Refused.is, c.encoded_answer.ensures)
+returns-in-Err c = simp (c.in-Err.is, c.encoded_answer.ensures)

@@ -13,16 +13,16 @@ returns-then-short c = simp (c.if-short.true-raw, c.too_short.ensures)
 
 pub returns-then-unbound : goal.returns-then-unbound
 unfolding on_port begin_close start_bytes
-returns-then-unbound c = simp (c.if-short.false-raw, ← c.narrowed-number.ensures, ← c.accepted.ensures, c.in-Entry.is, ← c.is_bound-unbound.ensures, c.if-unbound.true-raw, ← c.encoded_answer-then-unbound.ensures)
+returns-then-unbound c = simp (c.if-short.false-raw, ← c.narrowed-number.ensures, ← c.accepted.ensures, c.in-Ok.is, ← c.is_bound-unbound.ensures, c.if-unbound.true-raw, ← c.encoded_answer-then-unbound.ensures)
 
 pub returns-then-inside : goal.returns-then-inside
 unfolding on_port begin_close start_bytes is_free
-returns-then-inside c = simp (c.if-short.false-raw, ← c.narrowed-number.ensures, ← c.accepted.ensures, c.in-Entry.is, ← c.is_bound-unbound.ensures, c.if-unbound.false-raw, ← c.inside-inside.ensures, c.if-inside.true) (begun_carried link_bits _ _ _ _ refl c.begun.ensures)
+returns-then-inside c = simp (c.if-short.false-raw, ← c.narrowed-number.ensures, ← c.accepted.ensures, c.in-Ok.is, ← c.is_bound-unbound.ensures, c.if-unbound.false-raw, ← c.inside-inside.ensures, c.if-inside.true) (begun_carried link_bits _ _ _ _ refl c.begun.ensures)
 
-pub returns-in-Refused : goal.returns-in-Refused
+pub returns-in-Err : goal.returns-in-Err
 unfolding on_port begin_close start_bytes
-returns-in-Refused c = simp (c.if-short.false-raw, ← c.narrowed-number.ensures, ← c.accepted.ensures, c.in-Refused.is, ← c.encoded_answer.ensures)
+returns-in-Err c = simp (c.if-short.false-raw, ← c.narrowed-number.ensures, ← c.accepted.ensures, c.in-Err.is, ← c.encoded_answer.ensures)
 
 pub returns-else-inside : goal.returns-else-inside
 unfolding on_port begin_close start_bytes
-returns-else-inside c = simp (c.if-short.false-raw, ← c.narrowed-number.ensures, ← c.accepted.ensures, c.in-Entry.is, ← c.is_bound-unbound.ensures, c.if-unbound.false-raw, ← c.inside-inside.ensures, c.if-inside.false) (settled_carried (simp c.closed_entry-closed.ensures at c.settled.ensures))
+returns-else-inside c = simp (c.if-short.false-raw, ← c.narrowed-number.ensures, ← c.accepted.ensures, c.in-Ok.is, ← c.is_bound-unbound.ensures, c.if-unbound.false-raw, ← c.inside-inside.ensures, c.if-inside.false) (settled_carried (simp c.closed_entry-closed.ensures at c.settled.ensures))

@@ -14,10 +14,10 @@ u32_at-pages-requires c = omega (arith, ltb-true, ltb-false)
 pub put_u32-requires : goal.put_u32-requires
 put_u32-requires c = omega (arith, ltb-true, ltb-false)
 
-pub returns-in-Refused : goal.returns-in-Refused
+pub returns-in-Err : goal.returns-in-Err
 unfolding expand_bytes
-returns-in-Refused c = simp (← c.encoded_answer.ensures, c.in-Refused.is, ← c.accept_expand.ensures, ← c.u32_at-pages.ensures, ← c.given_at-given.ensures, ← c.owner_at-owner.ensures, c.if-short.false-raw)
+returns-in-Err c = simp (← c.encoded_answer.ensures, c.in-Err.is, ← c.accept_expand.ensures, ← c.u32_at-pages.ensures, ← c.given_at-given.ensures, ← c.owner_at-owner.ensures, c.if-short.false-raw)
 
-pub returns-in-Accepted : goal.returns-in-Accepted
+pub returns-in-Ok : goal.returns-in-Ok
 unfolding expand_bytes
-returns-in-Accepted c = simp (← c.encoded_answer-in-Accepted.ensures, ← c.put_u32.ensures, ← c.one_more-more.ensures, c.in-Accepted.is, ← c.accept_expand.ensures, ← c.u32_at-pages.ensures, ← c.given_at-given.ensures, ← c.owner_at-owner.ensures, c.if-short.false-raw)
+returns-in-Ok c = simp (← c.encoded_answer-in-Ok.ensures, ← c.put_u32.ensures, ← c.one_more-more.ensures, c.in-Ok.is, ← c.accept_expand.ensures, ← c.u32_at-pages.ensures, ← c.given_at-given.ensures, ← c.owner_at-owner.ensures, c.if-short.false-raw)

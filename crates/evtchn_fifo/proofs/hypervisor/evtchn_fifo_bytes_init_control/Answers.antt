@@ -11,10 +11,10 @@ returns-then-short c = simp (c.if-short.true-raw, c.too_short.ensures)
 pub put_u32-requires : goal.put_u32-requires
 put_u32-requires c = omega (arith, ltb-true, ltb-false)
 
-pub returns-in-Refused : goal.returns-in-Refused
+pub returns-in-Err : goal.returns-in-Err
 unfolding init_bytes
-returns-in-Refused c = simp (← c.encoded_answer.ensures, c.in-Refused.is, ← c.accept_init.ensures, ← c.given_at-given.ensures, ← c.owner_at-owner.ensures, ← c.narrowed-offset_number.ensures, ← c.narrowed-vcpu_number.ensures, c.if-short.false-raw)
+returns-in-Err c = simp (← c.encoded_answer.ensures, c.in-Err.is, ← c.accept_init.ensures, ← c.given_at-given.ensures, ← c.owner_at-owner.ensures, ← c.narrowed-offset_number.ensures, ← c.narrowed-vcpu_number.ensures, c.if-short.false-raw)
 
-pub returns-in-Accepted : goal.returns-in-Accepted
+pub returns-in-Ok : goal.returns-in-Ok
 unfolding init_bytes
-returns-in-Accepted c = simp (← c.encoded_answer-in-Accepted.ensures, ← c.link_bits-bits.ensures, ← c.put_u32.ensures, c.in-Accepted.is, ← c.accept_init.ensures, ← c.given_at-given.ensures, ← c.owner_at-owner.ensures, ← c.narrowed-offset_number.ensures, ← c.narrowed-vcpu_number.ensures, c.if-short.false-raw)
+returns-in-Ok c = simp (← c.encoded_answer-in-Ok.ensures, ← c.link_bits-bits.ensures, ← c.put_u32.ensures, c.in-Ok.is, ← c.accept_init.ensures, ← c.given_at-given.ensures, ← c.owner_at-owner.ensures, ← c.narrowed-offset_number.ensures, ← c.narrowed-vcpu_number.ensures, c.if-short.false-raw)
