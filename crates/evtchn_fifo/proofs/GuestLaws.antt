@@ -6,7 +6,7 @@ use mathlib.Core.Bool.{Bool, true, false, cond, not}
 use mathlib.Core.List.{List}
 use lib.ListN.{length}
 use lib.Dec.{leb, ltb}
-use borrow.Author.Tests.{leb-true, leb-false, le-ltb, lt-ltb, ne_eqb}
+use borrow.Author.Tests.{leb-true, le-ltb, lt-ltb, ne_eqb}
 use native.Mathlib.Omega.{arith}
 use Rattle.calls.specs.declared.types.GuestStage.{GuestStage}
 use Rattle.calls.specs.declared.types.GuestStage.TheVariants.{None, G0, G1, G2, G3, G4}
@@ -15,18 +15,16 @@ use Rattle.calls.specs.declared.types.ClearStage.{ClearStage}
 use Rattle.calls.specs.declared.types.ClearStage.TheVariants as clear_stage
 use Rattle.calls.specs.declared.types.ClearCall.{ClearCall}
 use Rattle.calls.specs.declared.types.Guest.{Guest}
-use Rattle.calls.specs.declared.types.Access.{Access}
 use Rattle.calls.specs.declared.types.Answer.{Answer}
 use Rattle.calls.specs.Records.{guest_idle, is_clearing, clear_idle}
 use Rattle.calls.specs.declared.guest.GuestMove.{GuestMove}
 use Rattle.calls.specs.declared.clear_mask.ClearMove.{ClearMove}
 use Rattle.calls.specs.Guest.{is_serving, guest_moved, guest_next, with_guest_call, with_words}
-use Rattle.calls.specs.ClearMask.{clear_staged, clear_due, clear_next, with_clear}
+use Rattle.calls.specs.ClearMask.{with_clear}
 use Rattle.evtchn_fifo.specs.Numbers.{number_at, put_number, numbers_at, put_values}
-use Rattle.evtchn_fifo.specs.Encoded.{EncodedNext, wrote, encoded_answer, encoded_access, encoded_next, too_short}
-use Rattle.evtchn_fifo.specs.GuestRecord.{guest_size, guest_stage_code, guest_stage_of, clear_stage_code, clear_stage_of, service_at, or_guest_idle, clear_call_at, or_clear_idle, guest_at, put_service, put_service_end, put_ready, put_guest_move, put_clear, put_clear_end, put_clear_move, put_guest}
-use Rattle.evtchn_fifo.specs.Guest.{service_next_at, served_bytes}
-use Rattle.evtchn_fifo.specs.ClearMask.{clear_move_bytes, guest_reply_bytes}
+use Rattle.evtchn_fifo.specs.Encoded.{encoded_next}
+use Rattle.evtchn_fifo.specs.GuestRecord.{guest_stage_code, guest_stage_of, clear_stage_code, clear_stage_of, service_at, or_guest_idle, clear_call_at, or_clear_idle, guest_at, put_service, put_service_end, put_ready, put_guest_move, put_clear, put_clear_end, put_clear_move, put_guest}
+use Rattle.evtchn_fifo.specs.Guest.{service_next_at}
 use Rattle.evtchn_fifo.proofs.NumberLaws.{length_put, length_value, before, after, read_back, kept_before, kept_after, numbers_kept, values_set, value_after, length_puts, sixteen_back}
 
 guest_stage_back : (s : GuestStage) → guest_stage_of (guest_stage_code s) ≡ s
@@ -261,28 +259,3 @@ clearing_is zero = refl
 clearing_is (suc zero) = refl
 clearing_is (suc (suc zero)) = refl
 clearing_is (suc (suc (suc k))) = high_clearing (suc (suc (suc k))) (omega arith)
-
--- ---- the clear_mask's reply, by what its code computes one after another
-
-module _ (r : List ℕ) (seen : ℕ) {c : ClearCall} {m : ClearMove} {b : Bool} {x : EncodedNext} {s : List ℕ} (k : c ≡ clear_call_at r) (h : m ≡ clear_staged c seen) (t : b ≡ is_clearing m.call.stage) where
-  pub clear_goes_on_lem : {a : Access} → b ≡ true → a ≡ clear_due m.call → wrote x s ≡ wrote (encoded_access a) (put_clear r m.call) → wrote x s ≡ clear_move_bytes r (clear_staged (clear_call_at r) seen)
-  unfolding clear_move_bytes clear_next encoded_next
-  clear_goes_on_lem e d w = rw (← k, ← h, ← t, e) (rw d at w)
-
-  pub clear_ends_lem : b ≡ false → x ≡ encoded_answer m.answer m.count → s ≡ put_number 3 r 88 0 → wrote x s ≡ clear_move_bytes r (clear_staged (clear_call_at r) seen)
-  unfolding clear_move_bytes clear_next encoded_next
-  clear_ends_lem e w v = rw (← k, ← h, ← t, e, w, v)
-
--- ---- the reply, by the length of the record and by what is under way
-
-pub reply_clears : (n : ℕ) (r : List ℕ) (seen : ℕ) → leb guest_size (length r) ≡ true → is_clearing (clear_call_at r).stage ≡ true → guest_reply_bytes n r seen ≡ clear_move_bytes r (clear_staged (clear_call_at r) seen)
-unfolding guest_reply_bytes
-reply_clears n r seen h e = rw (le-ltb (length r) guest_size (leb-true guest_size (length r) h), e)
-
-pub reply_serves : (n : ℕ) (r : List ℕ) (seen : ℕ) → leb guest_size (length r) ≡ true → is_clearing (clear_call_at r).stage ≡ false → guest_reply_bytes n r seen ≡ served_bytes n r seen
-unfolding guest_reply_bytes
-reply_serves n r seen h e = rw (le-ltb (length r) guest_size (leb-true guest_size (length r) h), e)
-
-pub reply_short : (n : ℕ) (r : List ℕ) (seen : ℕ) → leb guest_size (length r) ≡ false → guest_reply_bytes n r seen ≡ wrote too_short r
-unfolding guest_reply_bytes
-reply_short n r seen h = rw (lt-ltb (length r) guest_size (leb-false guest_size (length r) h))

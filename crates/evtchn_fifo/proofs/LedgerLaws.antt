@@ -49,11 +49,6 @@ pub fill_more : (t : List ℕ) (p e : ℕ) {l m : List ℕ} → l ≡ fill_entri
 unfolding fill_entries
 fill_more t p e a b = rw (b, a, add-one p)
 
--- all of them
-pub fill_all : (t : List ℕ) {l : List ℕ} {p e : ℕ} → p ≡ entries t → e ≡ fresh_entry → l ≡ fill_entries p t e → freshened 0 l ≡ fresh_ledger_bytes t
-unfolding fresh_ledger_bytes
-fill_all t a b c = rw (c, a, b)
-
 length_fill : (n : ℕ) (t : List ℕ) (e : ℕ) → length (fill_entries n t e) ≡ length t
 unfolding fill_entries
 length_fill zero t e = refl

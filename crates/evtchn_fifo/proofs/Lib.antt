@@ -5,7 +5,10 @@ pub mod DomainLaws
 pub mod GuestLaws
 pub mod UnderWayLaws
 pub mod ReplyLaws
-pub mod TailLaws
+pub mod PartLaws
+pub mod FrontLaws
+pub mod DomainFront
+pub mod GuestFront
 pub mod KeptBytes
 pub mod Narrow
 pub mod BeyondBytes

@@ -1,6 +1,6 @@
 -- Numbers in bytes: what was written is read back, and nothing else changes. Each law holds for numbers of every size.
 -- Assumes nothing.
-use Prim.Native.Nat.{ℕ, zero, suc, ◌+◌, ◌-◌, ◌*◌, ◌/◌, ◌%◌, ◌<◌, ◌≤◌}
+use Prim.Native.Nat.{ℕ, zero, suc, ◌+◌, ◌*◌, ◌/◌, ◌%◌, ◌<◌, ◌≤◌}
 use mathlib.Core.Path.{◌≡◌, refl, sym, ap, ◌∙◌, subst}
 use mathlib.Core.Bool.{Bool, true, false}
 use mathlib.Core.List.{List, [], ◌∷◌}
@@ -8,10 +8,10 @@ use mathlib.Core.Logic.{◌⊎◌, inl, inr, ⊎_elim}
 use lib.ListN.{length, get_or, set, length-set, get_or-eq_default}
 use lib.Seq.{get_or-set_same, get_or-set_other, set_out, set-get_or}
 use lib.Dec.{leb, ltb, eqb}
-use borrow.Author.Tests.{leb-true, leb-false, ltb-true, ltb-false, eqb-false, le-leb, lt-leb}
+use borrow.Author.Tests.{leb-true, ltb-true, ltb-false, eqb-false}
 use native.Mathlib.Omega.{arith}
 use native.Mathlib.Nat.{not-suc-le-zero}
-use Rattle.evtchn_fifo.specs.Numbers.{number_at, put_number, number_in, put_number_in, numbers_at, put_numbers, value_at, put_value}
+use Rattle.evtchn_fifo.specs.Numbers.{number_at, put_number, numbers_at, put_numbers, value_at, put_value}
 
 -- ---- one number
 
@@ -50,15 +50,18 @@ unfolding number_at
 after zero k s i v at h = byte_above k s i v at h
 after (suc j) k s i v at h = rw (byte_above k s i v at h, after j k s i v (at + 1) (omega arith))
 
--- what stands there, written again
-pub put_same : (k : ℕ) (s : List ℕ) (i : ℕ) → ((j : ℕ) → get_or s j 0 < 256) → put_number k s i (number_at k s i) ≡ s
+-- what stands there, written again, where those are bytes
+pub put_same_from : (k : ℕ) (s : List ℕ) (i : ℕ) → ((j : ℕ) → i ≤ j → get_or s j 0 < 256) → put_number k s i (number_at k s i) ≡ s
 unfolding put_number number_at
-put_same zero s i h = set-get_or s i 0
-put_same (suc k) s i h =
-    let b = h i in
+put_same_from zero s i h = set-get_or s i 0
+put_same_from (suc k) s i h =
+    let b = h i (omega arith) in
     let low : (get_or s i 0 + 256 * number_at k s (i + 1)) % 256 ≡ get_or s i 0 = omega arith in
     let high : (get_or s i 0 + 256 * number_at k s (i + 1)) / 256 ≡ number_at k s (i + 1) = omega arith in
-    rw (low, high, set-get_or s i 0) (put_same k s (i + 1) h)
+    rw (low, high, set-get_or s i 0) (put_same_from k s (i + 1) (λ j l. h j (omega arith)))
+
+pub put_same : (k : ℕ) (s : List ℕ) (i : ℕ) → ((j : ℕ) → get_or s j 0 < 256) → put_number k s i (number_at k s i) ≡ s
+put_same k s i h = put_same_from k s i (λ j l. h j)
 
 -- ---- numbers one after another
 
@@ -165,6 +168,14 @@ value_before base s q v at h = apart_by base s q v at (ltb q 16) refl (inl (leb-
 pub value_after : (base : ℕ) (s : List ℕ) (q v at : ℕ) → leb (base + 64) at ≡ true → number_at 3 (put_value base s q v) at ≡ number_at 3 s at
 value_after base s q v at h = apart_by base s q v at (ltb q 16) refl (inr (leb-true (base + 64) at h))
 
+byte_by : (base : ℕ) (s : List ℕ) (q v j : ℕ) (b : Bool) → ltb q 16 ≡ b → base + 64 ≤ j → get_or (put_value base s q v) j 0 ≡ get_or s j 0
+unfolding put_value
+byte_by base s q v j true e h = let l = ltb-true q 16 e in rw e (byte_above 3 s (base + q * 4) v j (omega arith))
+byte_by base s q v j false e h = rw e
+
+pub byte_after : (base : ℕ) (s : List ℕ) (q v j : ℕ) → base + 64 ≤ j → get_or (put_value base s q v) j 0 ≡ get_or s j 0
+byte_after base s q v j h = byte_by base s q v j (ltb q 16) refl h
+
 -- ---- numbers written one after another
 
 pub length_puts : (l : List ℕ) (k : ℕ) (s : List ℕ) (i : ℕ) → length (put_numbers k s i l) ≡ length s
@@ -191,39 +202,3 @@ sixteen_back size l s i n h t =
     let a = leb-true size (length s) h in
     let b = leb-true (i + 64) size t in
     ap (λ (m : ℕ). numbers_at 3 (put_numbers 3 s i l) i m) (sym n) ∙ puts_back l 3 s i (rw n (omega arith))
-
--- ---- a number at any place: whether its four bytes are there, as the code tests it
-
-fits : (i size : ℕ) → leb 4 size ≡ true → leb i (size - 4) ≡ true → leb (i + 4) size ≡ true
-fits i size some near = le-leb (i + 4) size (omega (arith, leb-true 4 size some, leb-true i (size - 4) near))
-
-fits_not : (i size : ℕ) → leb 4 size ≡ true → leb i (size - 4) ≡ false → leb (i + 4) size ≡ false
-fits_not i size some far = lt-leb (i + 4) size (omega (arith, leb-true 4 size some, leb-false i (size - 4) far))
-
-fits_nowhere : (i size : ℕ) → leb 4 size ≡ false → leb (i + 4) size ≡ false
-fits_nowhere i size none = lt-leb (i + 4) size (omega (arith, leb-false 4 size none))
-
-module _ (s : List ℕ) (i : ℕ) where
-  pub number_there : {r : ℕ} → leb 4 (length s) ≡ true → leb i (length s - 4) ≡ true → r ≡ number_at 3 s i → r ≡ number_in s i
-  unfolding number_in
-  number_there some near e = e ∙ sym (simp (fits i (length s) some near))
-
-  pub number_far : leb 4 (length s) ≡ true → leb i (length s - 4) ≡ false → ◌≡◌ {A = ℕ} 0 (number_in s i)
-  unfolding number_in
-  number_far some far = simp (fits_not i (length s) some far)
-
-  pub number_nowhere : leb 4 (length s) ≡ false → ◌≡◌ {A = ℕ} 0 (number_in s i)
-  unfolding number_in
-  number_nowhere none = simp (fits_nowhere i (length s) none)
-
-  pub put_there : (v : ℕ) {t : List ℕ} → leb 4 (length s) ≡ true → leb i (length s - 4) ≡ true → t ≡ put_number 3 s i v → t ≡ put_number_in s i v
-  unfolding put_number_in
-  put_there v some near e = e ∙ sym (simp (fits i (length s) some near))
-
-  pub put_far : (v : ℕ) → leb 4 (length s) ≡ true → leb i (length s - 4) ≡ false → s ≡ put_number_in s i v
-  unfolding put_number_in
-  put_far v some far = simp (fits_not i (length s) some far)
-
-  pub put_nowhere : (v : ℕ) → leb 4 (length s) ≡ false → s ≡ put_number_in s i v
-  unfolding put_number_in
-  put_nowhere v none = simp (fits_nowhere i (length s) none)

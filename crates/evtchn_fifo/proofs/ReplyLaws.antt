@@ -1,42 +1,43 @@
--- What a stage's own writes come to: the bytes that the stage's move writes, and no others.
+-- What a stage writes in place is what its move writes: the bytes of the calls' definitions, and no others.
 -- Assumes nothing.
-use Prim.Native.Nat.{ℕ, zero, suc, ◌*◌, ◌≤◌, ◌<◌}
+use Rattle.std.specs.Prelude.{Some}
+use Prim.Native.Nat.{ℕ, zero, suc, ◌+◌, ◌*◌, ◌≤◌, ◌<◌}
 use mathlib.Core.Path.{◌≡◌, refl, sym, ap, ◌∙◌}
 use mathlib.Core.Bool.{Bool, true, false, cond, not, true≢false}
-use mathlib.Core.List.{List}
-use lib.ListN.{length, get_or}
+use mathlib.Core.List.{List, ◌++◌}
+use mathlib.Core.Logic.{◌⊎◌, inl, inr}
+use lib.ListN.{length, get_or, take, drop}
 use lib.Dec.{eqb, ltb, leb}
 use native.Mathlib.Omega.{arith}
-use borrow.Author.Tests.{leb-true, leb-false, lt-ltb, le-ltb, not-true, not-false}
+use borrow.Author.Tests.{lt-ltb, le-ltb, not-true, not-false}
 use Rattle.word.specs.declared.Queue.{Queue}
 use Rattle.word.specs.declared.Port.{Port}
-use Rattle.word.specs.declared.Flag.TheVariants.{Pending, Masked, Linked, Busy}
-use Rattle.word.specs.Word.{has, mask, port_at, queue_at}
+use Rattle.word.specs.declared.Flag.TheVariants.{Pending, Masked, Linked}
+use Rattle.word.specs.Word.{has, queue_at}
 use Rattle.word.specs.Effect.{cas_taken}
-use Rattle.word.specs.Ready.{ready_mask, is_ready}
+use Rattle.word.specs.Ready.{is_ready}
 use Rattle.word.specs.Entry.{priority, last_queue, ever_linked, linked_entry}
-use Rattle.calls.specs.declared.types.Place.TheVariants.{Word, Ready}
-use Rattle.calls.specs.declared.types.Access.TheVariants.{Or}
 use Rattle.calls.specs.declared.types.Owner.{Owner}
 use Rattle.calls.specs.declared.types.Owner.TheVariants as owner
 use Rattle.calls.specs.declared.types.Stage.{Stage}
-use Rattle.calls.specs.declared.types.Stage.TheVariants.{First, R2, R3, SetBusy, R5, R6}
+use Rattle.calls.specs.declared.types.Stage.TheVariants.{First, R2, R3, R4, R5, R6, SetBusy, ClearBusy}
 use Rattle.calls.specs.declared.types.Call.{Call}
 use Rattle.calls.specs.declared.types.Answer.{Answer}
-use Rattle.calls.specs.declared.types.Answer.TheVariants.{Done, NoEntry, NoCall}
+use Rattle.calls.specs.declared.types.Answer.TheVariants.{Done}
 use Rattle.calls.specs.declared.hypervisor.stage.Move.{Move}
-use Rattle.calls.specs.Records.{call_at as called_at}
-use Rattle.calls.specs.Records.{is_free}
-use Rattle.calls.specs.Hypervisor.{ends, ends_tailed, goes_on, named, comparing, clearing, due, due_first, stale_queue, reply_r1, reply_u1, reply_first, reply_first_of, after_r2, reply_r2, reply_r3, after_first_cas, after_later_cas, reply_r4, reply_set_busy, reply_clear_busy, reply_r5, reply_r6, staged, staged_at}
-use Rattle.evtchn_fifo.specs.Numbers.{number_at, put_value}
-use Rattle.evtchn_fifo.specs.Encoded.{EncodedNext, Wrote, wrote, carried, encoded_answer, encoded_access, too_short}
+use Rattle.calls.specs.declared.hypervisor.stage.View.{View}
+use Rattle.calls.specs.Records.{is_free, idle_call}
+use Rattle.calls.specs.Hypervisor.{goes_on, named, due, stale_queue, reply_r1, reply_u1, reply_bind, reply_close, reply_first, reply_first_of, after_r2, reply_r2, reply_r3, after_first_cas, after_later_cas, reply_r4, reply_set_busy, reply_clear_busy, reply_r5, reply_r6, staged, staged_at}
+use Rattle.evtchn_fifo.specs.Numbers.{number_at, put_number, put_value}
+use Rattle.evtchn_fifo.specs.Encoded.{EncodedNext, Wrote, wrote, carried, encoded_access}
 use Rattle.evtchn_fifo.specs.Ledger.{entries, entry_in, put_entry}
-use Rattle.evtchn_fifo.specs.DomainRecord.{domain_size, owner_code, owner_of, owner_at, stage_of, call_at, view_at, tail_at, put_next, put_call, put_tail, put_end}
-use Rattle.evtchn_fifo.specs.Hypervisor.{next_at, move_at, move_bytes, moved_bytes, reply_bytes}
-use Rattle.evtchn_fifo.specs.InPlace.{entry_of, to_r2, to_r3, to_r4, to_clear_busy, to_r5, from_r2, under_way}
-use Rattle.evtchn_fifo.proofs.NumberLaws.{put_same, value_other}
+use Rattle.evtchn_fifo.specs.DomainRecord.{domain_size, owner_code, owner_of, owner_at, call_at, view_at, tail_at, put_next, put_call, put_tail}
+use Rattle.evtchn_fifo.specs.Hypervisor.{next_at, move_at, move_bytes}
+use Rattle.evtchn_fifo.specs.InPlace.{replied, has_ended, in_place, to_r3, to_r5, from_r2}
+use Rattle.evtchn_fifo.proofs.NumberLaws.{put_same_from, value_other, value_after, byte_after}
 use Rattle.evtchn_fifo.proofs.UnderWayLaws.{owner_is}
 use Rattle.evtchn_fifo.proofs.DomainLaws.{next_kept, call_apart}
+use Rattle.evtchn_fifo.proofs.PartLaws.{entry_among, put_entry_among}
 
 -- ---- the words that a stage leaves
 
@@ -65,89 +66,102 @@ owner_there : (r : List ℕ) → is_free (owner_at r) ≡ false → owner_code (
 unfolding owner_at
 owner_there r e = owner_by (ltb (number_at 3 r 76) 8) (number_at 3 r 72) e
 
+-- ---- a move, in place
+
+abbrev Bytes : List ℕ → Type 0
+Bytes r = (j : ℕ) → get_or r j 0 < 256
+
 -- its owner and its port are there
-pub under_way_lem : (r : List ℕ) (c : Call) → ((j : ℕ) → get_or r j 0 < 256) → is_free (call_at r).owner ≡ false → put_call r (under_way (call_at r) c) ≡ put_next r c
-unfolding put_call put_next call_at
-under_way_lem r c h e = rw (owner_there r e, put_same 3 r 72 h, put_same 3 r 80 h)
-
-entry_by : (t : List ℕ) (p : ℕ) (b : Bool) → ltb p (entries t) ≡ b → ((j : ℕ) → get_or t j 0 < 256) → put_entry t p (number_at 1 t (p * 2)) ≡ t
-unfolding put_entry
-entry_by t p true e h = rw (e, put_same 1 t (p * 2) h)
-entry_by t p false e h = rw e
-
--- an entry written again
-pub entry_same : (t : List ℕ) (p : ℕ) → ((j : ℕ) → get_or t j 0 < 256) → put_entry t p (number_at 1 t (p * 2)) ≡ t
-entry_same t p h = entry_by t p (ltb p (entries t)) refl h
-
--- ---- moves, as bytes
-
-pub ends_move : (n : ℕ) (r : List ℕ) (e : ℕ) (a : Answer) (k : ℕ) → move_bytes n r (ends e a k) ≡ wrote (encoded_answer a k) (put_end r)
-unfolding move_bytes next_at is_free put_value
-ends_move n r e a k = refl
-
-pub tailed_move : (n : ℕ) (r : List ℕ) (e : ℕ) (c : Call) (a : Answer) → move_bytes n r (ends_tailed e c a) ≡ wrote (encoded_answer a c.count) (put_end (put_tail r c.queue.0 c.port.0))
-unfolding move_bytes next_at is_free
-tailed_move n r e c a = refl
+same_call : (s : List ℕ) (c : Call) → owner_code c.owner ≡ number_at 3 s 72 → c.port.0 ≡ number_at 3 s 80 → ((j : ℕ) → 72 ≤ j → get_or s j 0 < 256) → put_call s c ≡ put_next s c
+unfolding put_call
+same_call s c o p h = rw (o, put_same_from 3 s 72 h, p, put_same_from 3 s 80 (λ j l. h j (omega arith)))
 
 on_next : (n : ℕ) (r : List ℕ) (c : Call) (a : Answer) (k : ℕ) → is_free c.owner ≡ false → next_at n r c a k ≡ encoded_access (due n c (tail_at r c.queue.0))
 unfolding next_at
 on_next n r c a k e = rw e
 
-pub on_move : (n : ℕ) (r : List ℕ) (m : Move) → is_free m.call.owner ≡ false → move_bytes n r m ≡ wrote (encoded_access (due n m.call (tail_at (put_tail r m.queue.0 m.tail) m.call.queue.0))) (put_call (put_tail r m.queue.0 m.tail) m.call)
+on_move : (n : ℕ) (r : List ℕ) (m : Move) → is_free m.call.owner ≡ false → move_bytes n r m ≡ wrote (encoded_access (due n m.call (tail_at (put_tail r m.queue.0 m.tail) m.call.queue.0))) (put_call (put_tail r m.queue.0 m.tail) m.call)
 unfolding move_bytes
 on_move n r m e =
     let s = put_tail r m.queue.0 m.tail in
     rw e (ap (λ (x : EncodedNext). wrote x (put_call s m.call)) (next_kept n s m.call m.answer m.count ∙ on_next n s m.call m.answer m.count e))
 
-pub r2_move : (n : ℕ) (r : List ℕ) (e : ℕ) → is_free (call_at r).owner ≡ false → move_bytes n r (goes_on e (named (call_at r) R2 (queue_at 0))) ≡ to_r2 r
-unfolding due put_value
-r2_move n r e f = on_move n r (goes_on e (named (call_at r) R2 (queue_at 0))) f
+-- a move ends the call c, or goes on with its owner and its port
+record GoesOn (c d : Call) : Type 0 where
+  stage : has_ended d.stage ≡ false
+  owner : d.owner ≡ c.owner
+  port : d.port ≡ c.port
 
-pub r5_move : (n : ℕ) (r : List ℕ) (e : ℕ) (q : Queue) → is_free (call_at r).owner ≡ false → move_bytes n r (goes_on e (named (call_at r) R5 q)) ≡ to_r5 r q
-unfolding due put_value
-r5_move n r e q f = on_move n r (goes_on e (named (call_at r) R5 q)) f
+record IsNext (c : Call) (m : Move) : Type 0 where
+  which : (m.call ≡ idle_call) ⊎ GoesOn c m.call
 
-pub r4_move : (n : ℕ) (r : List ℕ) (e tries w : ℕ) → is_free (call_at r).owner ≡ false → move_bytes n r (goes_on e (comparing (call_at r) tries w)) ≡ to_r4 n r tries w
-unfolding due put_value
-r4_move n r e tries w f = on_move n r (goes_on e (comparing (call_at r) tries w)) f
+stops : {c : Call} {m : Move} → m.call ≡ idle_call → IsNext c m
+stops e = record { which = inl e }
 
-pub set_busy_move : (n : ℕ) (r : List ℕ) (e : ℕ) → is_free (call_at r).owner ≡ false → move_bytes n r (goes_on e (named (call_at r) SetBusy (call_at r).queue)) ≡ wrote (encoded_access (Or (Word (port_at (tail_at r (call_at r).queue.0))) (mask Busy))) (put_call r (named (call_at r) SetBusy (call_at r).queue))
-unfolding due put_value
-set_busy_move n r e f = on_move n r (goes_on e (named (call_at r) SetBusy (call_at r).queue)) f
+goes : {c : Call} {m : Move} → has_ended m.call.stage ≡ false → m.call.owner ≡ c.owner → m.call.port ≡ c.port → IsNext c m
+goes h o p = record { which = inr (record { stage = h; owner = o; port = p }) }
 
-pub clear_busy_move : (n : ℕ) (r : List ℕ) (e w : ℕ) → is_free (call_at r).owner ≡ false → move_bytes n r (goes_on e (clearing (call_at r) w)) ≡ to_clear_busy r w
-unfolding due put_value
-clear_busy_move n r e w f = on_move n r (goes_on e (clearing (call_at r) w)) f
+next_if : (b : Bool) (c : Call) (x y : Move) → IsNext c x → IsNext c y → IsNext c (cond b x y)
+next_if true c x y p q = p
+next_if false c x y p q = q
 
-pub r6_move : (n : ℕ) (r : List ℕ) (e : ℕ) → is_free (call_at r).owner ≡ false → move_bytes n r (reply_r5 (call_at r) e) ≡ wrote (encoded_access (Or Ready (ready_mask (call_at r).queue.0))) (put_call (put_tail r (call_at r).queue.0 (call_at r).port.0) (named (call_at r) R6 (call_at r).queue))
-unfolding due reply_r5
-r6_move n r e f = on_move n r (reply_r5 (call_at r) e) f
+first_next : (o : Owner) (c : Call) (e seen : ℕ) → IsNext c (reply_first_of o c e seen)
+unfolding reply_bind reply_close reply_r1 reply_u1
+first_next owner.None c e seen = stops refl
+first_next owner.Bind c e seen = next_if (has Linked seen) c _ _ (stops refl) (stops refl)
+first_next owner.Close c e seen = stops refl
+first_next owner.Raise c e seen = next_if (has Masked seen) c _ _ (stops refl) (next_if (has Linked seen) c _ _ (stops refl) (goes refl refl refl))
+first_next owner.Unmask c e seen = next_if (not (has Pending seen)) c _ _ (stops refl) (next_if (has Linked seen) c _ _ (stops refl) (goes refl refl refl))
 
--- ---- the ledger
+after_goes : (a b : Bool) (c : Call) (q : Queue) → GoesOn c (cond a (named c R5 q) (cond b (named c R5 q) (named c R3 q)))
+after_goes true b c q = record { stage = refl; owner = refl; port = refl }
+after_goes false true c q = record { stage = refl; owner = refl; port = refl }
+after_goes false false c q = record { stage = refl; owner = refl; port = refl }
 
-pub carry : {x y : EncodedNext} {s z t u : List ℕ} → wrote x s ≡ wrote y z → t ≡ u → carried x s t ≡ carried y z u
-carry {y = y} {z = z} {t = t} w e = ap (λ (q : Wrote). carried q.next q.record_bytes t) w ∙ ap (λ (l : List ℕ). carried y z l) e
+r4_next : (c : Call) (e seen : ℕ) → IsNext c (reply_r4 c e seen)
+unfolding reply_r4 after_first_cas after_later_cas
+r4_next c e seen =
+    next_if (cas_taken seen c.word) c _ _ (stops refl)
+    (next_if (leb c.tries 1) c _ _ (next_if (not (has Linked seen)) c _ _ (goes refl refl refl) (goes refl refl refl))
+    (next_if (not (has Linked seen)) c _ _ (goes refl refl refl) (next_if (leb 5 c.tries) c _ _ (goes refl refl refl) (goes refl refl refl))))
 
-pub ends_carried : (n : ℕ) (r t : List ℕ) (p e : ℕ) (a : Answer) (k : ℕ) {x : EncodedNext} {s u : List ℕ} → wrote x s ≡ wrote (encoded_answer a k) (put_end r) → u ≡ put_entry t p e → carried x s u ≡ moved_bytes n r t p (ends e a k)
-unfolding move_bytes next_at is_free put_value
-ends_carried n r t p e a k w f = carry w f
+stage_next : (s : Stage) (c : Call) (e : ℕ) (v : View) (seen : ℕ) → IsNext c (staged_at s c e v seen)
+unfolding reply_first reply_r2 after_r2 reply_r3 reply_set_busy reply_clear_busy reply_r5 reply_r6
+stage_next First c e v seen = first_next c.owner c e seen
+stage_next R2 c e v seen = next_if (has Linked seen) c _ _ (stops refl) (record { which = inr (after_goes (eqb v.tail 0) (eqb v.tail c.port.0) c (queue_at (priority e))) })
+stage_next R3 c e v seen = next_if (not (has Linked seen)) c _ _ (goes refl refl refl) (goes refl refl refl)
+stage_next R4 c e v seen = r4_next c e seen
+stage_next SetBusy c e v seen = next_if (not (has Linked seen)) c _ _ (goes refl refl refl) (goes refl refl refl)
+stage_next ClearBusy c e v seen = next_if (has Linked c.word) c _ _ (stops refl) (goes refl refl refl)
+stage_next R5 c e v seen = goes refl refl refl
+stage_next R6 c e v seen = next_if (is_ready c.queue.0 seen) c _ _ (stops refl) (stops refl)
 
-pub settled_carried : {x y : EncodedNext} {r t u : List ℕ} → wrote x t ≡ wrote y u → carried x r t ≡ carried y r u
-settled_carried {r = r} w = ap (λ (q : Wrote). carried q.next r q.record_bytes) w
+ends_in_place : (n : ℕ) (r : List ℕ) (m : Move) → m.call ≡ idle_call → in_place n r m ≡ move_bytes n r m
+unfolding in_place move_bytes next_at is_free
+ends_in_place n r m e = rw e
 
--- the first access
-first_next : (n : ℕ) (r : List ℕ) (o : Owner) (p : Port) (a : Answer) (k : ℕ) → is_free o ≡ false → next_at n (put_call r (called_at o First p (queue_at 0) 1)) (called_at o First p (queue_at 0) 1) a k ≡ encoded_access (due_first o p)
-unfolding due
-first_next n r o p a k f = on_next n (put_call r (called_at o First p (queue_at 0) 1)) (called_at o First p (queue_at 0) 1) a k f
+goes_in_place : (n : ℕ) (r : List ℕ) (m : Move) → Bytes r → is_free (call_at r).owner ≡ false → GoesOn (call_at r) m.call → in_place n r m ≡ move_bytes n r m
+unfolding in_place call_at
+goes_in_place n r m h f g =
+    let s = put_tail r m.queue.0 m.tail in
+    let w : wrote (encoded_access (due n m.call (tail_at s m.call.queue.0))) (put_call s m.call) ≡ move_bytes n r m = sym (on_move n r m (rw g.owner f)) in
+    let o : owner_code m.call.owner ≡ number_at 3 s 72 = rw g.owner (owner_there r f ∙ sym (value_after 8 r m.queue.0 m.tail 72 refl)) in
+    let p : m.call.port.0 ≡ number_at 3 s 80 = ap (λ (q : Port). q.0) g.port ∙ sym (value_after 8 r m.queue.0 m.tail 80 refl) in
+    rw (g.stage, ← same_call s m.call o p (λ j l. rw (byte_after 8 r m.queue.0 m.tail j l) (h j))) w
 
-pub begun_carried : (n : ℕ) (r t : List ℕ) (o : Owner) (p : Port) {x : EncodedNext} {s : List ℕ} → is_free o ≡ false → wrote x s ≡ wrote (encoded_access (due_first o p)) (put_call r (called_at o First p (queue_at 0) 1)) →
-    carried x s t ≡ carried (next_at n (put_call r (called_at o First p (queue_at 0) 1)) (called_at o First p (queue_at 0) 1) Done 0) (put_call r (called_at o First p (queue_at 0) 1)) t
-begun_carried n r t o p f w = rw (first_next n r o p Done 0 f) (carry w refl)
+in_place_by : (n : ℕ) (r : List ℕ) (m : Move) → Bytes r → is_free (call_at r).owner ≡ false → (m.call ≡ idle_call) ⊎ GoesOn (call_at r) m.call → in_place n r m ≡ move_bytes n r m
+in_place_by n r m h f (inl e) = ends_in_place n r m e
+in_place_by n r m h f (inr g) = goes_in_place n r m h f g
 
--- a stage that leaves it
-pub kept : (n : ℕ) (r t : List ℕ) (m : Move) {x : EncodedNext} {s : List ℕ} → wrote x s ≡ move_bytes n r m → m.entry ≡ entry_of r t → ((j : ℕ) → get_or t j 0 < 256) → carried x s t ≡ moved_bytes n r t (call_at r).port.0 m
-unfolding move_bytes
-kept n r t m w e h = carry w (sym (entry_same t (call_at r).port.0 h) ∙ ap (λ (x : ℕ). put_entry t (call_at r).port.0 x) (sym e))
+in_place_is : (n : ℕ) (r : List ℕ) (e seen : ℕ) → Bytes r → is_free (call_at r).owner ≡ false → in_place n r (move_at r e seen) ≡ move_bytes n r (move_at r e seen)
+unfolding staged
+in_place_is n r e seen h f = in_place_by n r (move_at r e seen) h f (stage_next (call_at r).stage (call_at r) e (view_at r e) seen).which
+
+pub r5_in_place : (n : ℕ) (r : List ℕ) (e : ℕ) (q : Queue) → in_place n r (goes_on e (named (call_at r) R5 q)) ≡ to_r5 r q
+unfolding in_place due put_value
+r5_in_place n r e q = refl
+
+-- ---- a stage that leaves the ledger's entry
 
 entry_if : (b : Bool) (x y : Move) (e : ℕ) → x.entry ≡ e → y.entry ≡ e → (cond b x y).entry ≡ e
 entry_if true x y e p q = p
@@ -188,19 +202,7 @@ pub r6_entry : (c : Call) (e seen : ℕ) → (reply_r6 c e seen).entry ≡ e
 unfolding reply_r6
 r6_entry c e seen = entry_if (is_ready c.queue.0 seen) _ _ e refl refl
 
--- ---- the owner and the stage
-
-pub first_is : (r : List ℕ) (e seen : ℕ) (o : Owner) → (call_at r).owner ≡ o → reply_first (call_at r) e seen ≡ reply_first_of o (call_at r) e seen
-unfolding reply_first
-first_is r e seen o h = rw h
-
-pub staged_is : (r : List ℕ) (e seen : ℕ) (s : Stage) → stage_of (number_at 3 r 76) ≡ s → move_at r e seen ≡ staged_at s (call_at r) e (view_at r e) seen
-unfolding staged call_at
-staged_is r e seen s h = rw h
-
-pub port_there : (r : List ℕ) → (call_at r).port.0 ≡ number_at 3 r 80
-unfolding call_at
-port_there r = refl
+pub ruleset staged_entries = (r3_entry, r4_entry, set_busy_entry, clear_busy_entry, r5_entry, r6_entry)
 
 -- ---- R2
 
@@ -240,49 +242,63 @@ same_tail : (r : List ℕ) (e : ℕ) → domain_size ≤ length r → tail_at (c
 same_tail r e h = stale_apart r e (call_at r).port (queue_of e) (tail_at r (last_queue e)) h
 
 -- to R5 or R3
-by_tests : (n : ℕ) (r : List ℕ) (e : ℕ) → is_free (call_at r).owner ≡ false → (a b : Bool) →
-    move_bytes n r (move_to r e (cond a (named (call_at r) R5 (queue_of e)) (cond b (named (call_at r) R5 (queue_of e)) (named (call_at r) R3 (queue_of e)))))
+by_tests : (n : ℕ) (r : List ℕ) (e : ℕ) → (a b : Bool) →
+    in_place n r (move_to r e (cond a (named (call_at r) R5 (queue_of e)) (cond b (named (call_at r) R5 (queue_of e)) (named (call_at r) R3 (queue_of e)))))
     ≡ cond a (to_r5 (cleared r e) (queue_of e)) (cond b (to_r5 (cleared r e) (queue_of e)) (to_r3 (cleared r e) (queue_of e)))
-unfolding due
-by_tests n r e f true b = rw (call_apart r (stale r e).0 0) (on_move n r (move_to r e (named (call_at r) R5 (queue_of e))) f)
-by_tests n r e f false true = rw (call_apart r (stale r e).0 0) (on_move n r (move_to r e (named (call_at r) R5 (queue_of e))) f)
-by_tests n r e f false false = rw (call_apart r (stale r e).0 0) (on_move n r (move_to r e (named (call_at r) R3 (queue_of e))) f)
+unfolding in_place due
+by_tests n r e true b = rw (call_apart r (stale r e).0 0) refl
+by_tests n r e false true = rw (call_apart r (stale r e).0 0) refl
+by_tests n r e false false = rw (call_apart r (stale r e).0 0) refl
 
 -- what R2's reply writes of the record
-pub r2_moved : (n : ℕ) (r : List ℕ) (e : ℕ) → domain_size ≤ length r → is_free (call_at r).owner ≡ false → move_bytes n r (move_to r e (after_r2 (call_at r) (queue_of e) (tail_at r (priority e)))) ≡ from_r2 (cleared r e) (queue_of e)
+r2_moved : (n : ℕ) (r : List ℕ) (e : ℕ) → domain_size ≤ length r → in_place n r (move_to r e (after_r2 (call_at r) (queue_of e) (tail_at r (priority e)))) ≡ from_r2 (cleared r e) (queue_of e)
 unfolding after_r2
-r2_moved n r e h f =
-    let m = by_tests n r e f (eqb (tail_at r (priority e)) 0) (eqb (tail_at r (priority e)) (call_at r).port.0) in
+r2_moved n r e h =
+    let m = by_tests n r e (eqb (tail_at r (priority e)) 0) (eqb (tail_at r (priority e)) (call_at r).port.0) in
     rw (same_tail r e h, call_apart r (stale r e).0 0) (rw (same_tail r e h, call_apart r (stale r e).0 0) at m)
 
-r2_carried : (n : ℕ) (r t : List ℕ) (e seen : ℕ) {x : EncodedNext} {s u : List ℕ} → domain_size ≤ length r → is_free (call_at r).owner ≡ false → has Linked seen ≡ false → wrote x s ≡ from_r2 (cleared r e) (queue_of e) → u ≡ put_entry t (call_at r).port.0 (linked_entry e (priority e)) → carried x s u ≡ moved_bytes n r t (call_at r).port.0 (reply_r2 (call_at r) e (view_at r e) seen)
+-- and its reply, by what its code computes one after another
+pub r2_steps : (n : ℕ) (r : List ℕ) (seen : ℕ) (c : Call) (e : ℕ) (q : Queue) (d : List ℕ) {x : EncodedNext} {s : List ℕ} → domain_size ≤ length r → has Linked seen ≡ false →
+    c ≡ call_at r → q ≡ queue_at (priority e) → d ≡ put_tail r (stale_queue e c.port q (tail_at r (last_queue e))).0 0 → wrote x s ≡ from_r2 d q →
+    wrote x s ≡ in_place n r (reply_r2 (call_at r) e (view_at r e) seen)
 unfolding reply_r2 view_at
-r2_carried n r t e seen h f l w g = rw l (carry (w ∙ sym (r2_moved n r e h f)) g)
+r2_steps n r seen c e q d h l a g k w =
+    let k' : d ≡ cleared r e = rw (a, g) at k in
+    rw l ((rw (k', g) at w) ∙ sym (r2_moved n r e h))
 
--- R2's reply, by what its code computes one after another
-pub r2_steps : (n : ℕ) (r t : List ℕ) (seen : ℕ) (c : Call) (e : ℕ) (q : Queue) (d : List ℕ) {x : EncodedNext} {s u : List ℕ} → domain_size ≤ length r → is_free (call_at r).owner ≡ false → has Linked seen ≡ false →
-    c ≡ call_at r → e ≡ number_at 1 t (c.port.0 * 2) → q ≡ queue_at (priority e) → d ≡ put_tail r (stale_queue e c.port q (tail_at r (last_queue e))).0 0 → wrote x s ≡ from_r2 d q → u ≡ put_entry t c.port.0 (linked_entry e q.0) →
-    carried x s u ≡ moved_bytes n r t (call_at r).port.0 (reply_r2 (call_at r) (entry_of r t) (view_at r (entry_of r t)) seen)
-r2_steps n r t seen c e q d h f l a b g k w v =
-    let b' : e ≡ entry_of r t = rw a at b in
-    let g' : q ≡ queue_of (entry_of r t) = rw b' at g in
-    let k' : d ≡ cleared r (entry_of r t) = rw (a, g', b') at k in
-    r2_carried n r t (entry_of r t) seen h f l (rw (k', g') at w) (rw (a, g', b') at v)
+-- ---- the reply to a call whose port has an entry
 
--- ---- the reply, by the tests that it makes
+there : (t : List ℕ) (p : ℕ) → ltb p (entries t) ≡ true → entry_in t p ≡ Some (number_at 1 t (p * 2))
+unfolding entry_in
+there t p i = rw i
 
-pub reply_there : (n : ℕ) (r t : List ℕ) (seen : ℕ) → leb domain_size (length r) ≡ true → not (is_free (call_at r).owner) ≡ true → ltb (call_at r).port.0 (entries t) ≡ true → reply_bytes n r t seen ≡ moved_bytes n r t (call_at r).port.0 (move_at r (entry_of r t) seen)
-unfolding reply_bytes entry_in
-reply_there n r t seen h f e = rw (le-ltb (length r) domain_size (leb-true domain_size (length r) h), not-true (is_free (call_at r).owner) f, e)
+put_there : (t : List ℕ) (p e : ℕ) → ltb p (entries t) ≡ true → put_entry t p e ≡ put_number 1 t (p * 2) e
+unfolding put_entry
+put_there t p e i = rw i
 
-pub reply_missing : (n : ℕ) (r t : List ℕ) (seen : ℕ) → leb domain_size (length r) ≡ true → not (is_free (call_at r).owner) ≡ true → ltb (call_at r).port.0 (entries t) ≡ false → reply_bytes n r t seen ≡ carried (encoded_answer NoEntry 0) r t
-unfolding reply_bytes entry_in
-reply_missing n r t seen h f e = rw (le-ltb (length r) domain_size (leb-true domain_size (length r) h), not-true (is_free (call_at r).owner) f, e)
+port_there : (r : List ℕ) → (call_at r).port.0 ≡ number_at 3 r 80
+unfolding call_at
+port_there r = refl
 
-pub reply_idle : (n : ℕ) (r t : List ℕ) (seen : ℕ) → leb domain_size (length r) ≡ true → not (is_free (call_at r).owner) ≡ false → reply_bytes n r t seen ≡ carried (encoded_answer NoCall 0) r t
-unfolding reply_bytes
-reply_idle n r t seen h f = rw (le-ltb (length r) domain_size (leb-true domain_size (length r) h), not-false (is_free (call_at r).owner) f)
+module _ (n : ℕ) (r t : List ℕ) (seen : ℕ) (h : Bytes r) (f : not (is_free (call_at r).owner) ≡ true) where
+  replies : {x : EncodedNext} {s w : List ℕ} → (call_at r).port.0 * 2 + 2 ≤ length t →
+      wrote x s ≡ in_place n r (move_at r (number_at 1 (take 2 (drop ((call_at r).port.0 * 2) t)) 0) seen) →
+      w ≡ put_number 1 (take 2 (drop ((call_at r).port.0 * 2) t)) 0 (move_at r (number_at 1 (take 2 (drop ((call_at r).port.0 * 2) t)) 0) seen).entry →
+      carried x s (take ((call_at r).port.0 * 2) t ++ (w ++ drop 2 (drop ((call_at r).port.0 * 2) t))) ≡ replied n r t seen
+  replies l w u =
+      let p = (call_at r).port.0 in
+      let e = number_at 1 t (p * 2) in
+      let i : ltb p (entries t) ≡ true = lt-ltb p (entries t) (omega arith) in
+      let free = not-true (is_free (call_at r).owner) f in
+      let w' = rw (entry_among t (p * 2) l) at w in
+      let u' = rw (entry_among t (p * 2) l) at u in
+      let m = w' ∙ in_place_is n r e seen h free in
+      rw (free, there t p i, u', put_entry_among t (p * 2) _ l, ← put_there t p (move_at r e seen).entry i) (ap (λ (q : Wrote). carried q.next q.record_bytes (put_entry t p (move_at r e seen).entry)) m)
 
-pub reply_short : (n : ℕ) (r t : List ℕ) (seen : ℕ) → leb domain_size (length r) ≡ false → reply_bytes n r t seen ≡ carried too_short r t
-unfolding reply_bytes
-reply_short n r t seen h = rw (lt-ltb (length r) domain_size (leb-false domain_size (length r) h))
+  pub reply_there : (p : ℕ) → p ≡ number_at 3 r 80 → {x : EncodedNext} {s w : List ℕ} → p * 2 + 2 ≤ length t →
+      wrote x s ≡ in_place n r (move_at r (number_at 1 (take 2 (drop (p * 2) t)) 0) seen) →
+      w ≡ put_number 1 (take 2 (drop (p * 2) t)) 0 (move_at r (number_at 1 (take 2 (drop (p * 2) t)) 0) seen).entry →
+      carried x s (take (p * 2) t ++ (w ++ drop 2 (drop (p * 2) t))) ≡ replied n r t seen
+  reply_there p k l w u =
+      let e : p ≡ (call_at r).port.0 = k ∙ sym (port_there r) in
+      rw e (replies (rw e at l) (rw e at w) (rw e at u))

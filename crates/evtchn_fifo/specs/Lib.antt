@@ -4,7 +4,7 @@ pub mod Ledger
 pub mod DomainRecord
 pub mod GuestRecord
 pub mod Hypervisor
-pub mod InPlace
 pub mod Guest
 pub mod ClearMask
+pub mod InPlace
 pub mod Claims

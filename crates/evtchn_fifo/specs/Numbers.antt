@@ -39,8 +39,5 @@ value_at base s q = cond (ltb q 16) (number_at 3 s (base + q * 4)) 0
 unfoldable pub put_value : ℕ → List ℕ → ℕ → ℕ → List ℕ
 put_value base s q v = cond (ltb q 16) (put_number 3 s (base + q * 4) v) s
 
-abbrev pub put_four : List ℕ → ℕ → ℕ → ℕ → ℕ → ℕ → List ℕ
-put_four s i a b c d = put_number 3 (put_number 3 (put_number 3 (put_number 3 s i a) (i + 4) b) (i + 8) c) (i + 12) d
-
 abbrev pub put_values : ℕ → List ℕ → List ℕ → List ℕ
 put_values base s l = put_numbers 3 s base l

@@ -1,6 +1,7 @@
 // What a call or a reply comes to, as C has it.
 ghost use Rattle.std.specs.Prelude.{◌≡◌, ◌≤◌, ◌/◌, ◌%◌};
 ghost use Rattle.evtchn_fifo.specs.Encoded.{unpacked, encoded, place_code, place_index, encoded_place, encoded_access, encoded_answer, encoded_masking, too_short};
+ghost use Rattle.evtchn_fifo.specs.InPlace.{next_or_answer};
 
 use calls::answer::Code;
 use calls::types::{Access, Answer, Made, Place, Refused};
@@ -17,17 +18,16 @@ pub struct PackedNext {
 fn pair(lower: u32, upper: u32) -> u64
     ensures { (result % 0x100000000 ≡ lower) × (result / 0x100000000 ≡ upper) }
 {
-    (lower as u64) + (upper as u64) * 0x1_0000_0000
+    u64::from(lower) + u64::from(upper) * 0x1_0000_0000
 }
 
+#[tactic(auto, unfolding(crate::specs::Encoded::unpacked))]
 fn packed(code: u32, index: u32, value: u32, old: u32) -> PackedNext
     ensures { unpacked result ≡ encoded code index value old }
 {
-    let first = pair(code, index);
-    let second = pair(value, old);
     PackedNext {
-        first: first,
-        second: second,
+        first: pair(code, index),
+        second: pair(value, old),
     }
 }
 
@@ -37,6 +37,7 @@ pub fn too_short() -> PackedNext
     packed(64, 0, 0, 0)
 }
 
+#[tactic(auto, unfolding(crate::specs::Encoded::encoded_answer))]
 pub fn encoded_answer(answer: Answer, count: u32) -> PackedNext
     ensures { unpacked result ≡ encoded_answer answer count }
 {
@@ -44,6 +45,7 @@ pub fn encoded_answer(answer: Answer, count: u32) -> PackedNext
     packed(code.number, code.value, count, 0)
 }
 
+// The numbers of C's header, for places and for what is done there.
 pub fn place_code(place: Place) -> u32
     ensures { (result ≡ place_code place) × (result ≤ 2) }
 {
@@ -64,15 +66,15 @@ pub fn place_index(place: Place) -> u32
     }
 }
 
+#[tactic(auto, unfolding(crate::specs::Encoded::encoded_place))]
 fn encoded_place(kind: u32, place: Place, value: u32, old: u32) -> PackedNext
     requires { kind ≤ 0x150 }
     ensures { unpacked result ≡ encoded_place kind place value old }
 {
-    let code = place_code(place);
-    let index = place_index(place);
-    packed(kind + code, index, value, old)
+    packed(kind + place_code(place), place_index(place), value, old)
 }
 
+#[tactic(auto, unfolding(crate::specs::Encoded::encoded_access))]
 pub fn encoded_access(access: Access) -> PackedNext
     ensures { unpacked result ≡ encoded_access access }
 {
@@ -86,7 +88,18 @@ pub fn encoded_access(access: Access) -> PackedNext
     }
 }
 
+// What comes next, or the answer that refuses.
+pub(crate) fn next_or_answer(outcome: Result<PackedNext, Answer>) -> PackedNext
+    ensures { unpacked result ≡ next_or_answer outcome }
+{
+    match outcome {
+        Ok(next) => next,
+        Err(answer) => encoded_answer(answer, 0),
+    }
+}
+
 // A mask's access says its answer 0 and count 1.
+#[tactic(auto, unfolding(crate::specs::Encoded::encoded_masking))]
 pub fn encoded_masking(masking: Result<Made, Refused>) -> PackedNext
     ensures { unpacked result ≡ encoded_masking masking }
 {

@@ -1,26 +1,22 @@
 // A guest's record in bytes: its fields read and written.
-ghost use Rattle.std.specs.Prelude.{◌≡◌, ◌≤◌, length};
+ghost use Rattle.std.specs.Prelude.{◌≡◌};
 ghost use Rattle.calls.specs.Records.{is_clearing};
-ghost use Rattle.evtchn_fifo.specs.GuestRecord.{guest_size, guest_stage_code, guest_stage_of, clear_stage_code, clear_stage_of, words_in, service_at, clear_call_at, put_service, put_clear, put_guest};
+ghost use Rattle.evtchn_fifo.specs.GuestRecord.{guest_stage_code, guest_stage_of, clear_stage_code, clear_stage_of, words_in, service_at, clear_call_at, put_service, put_clear, put_guest};
 
+use crate::layout::GuestBytes;
 use crate::{layout, numbers};
 use calls::types::{ClearCall, ClearStage, Guest, GuestCall, GuestStage};
 use word::{Port, Queue};
 
+// Stages are declared in the order of their codes.
 pub fn guest_stage_code(stage: GuestStage) -> u32
     ensures { result ≡ guest_stage_code stage }
 {
-    match stage {
-        GuestStage::None => 0,
-        GuestStage::G0 => 1,
-        GuestStage::G1 => 2,
-        GuestStage::G2 => 3,
-        GuestStage::G3 => 4,
-        GuestStage::G4 => 5,
-    }
+    stage as u32
 }
 
 // The stage of a code; none where it is no stage's.
+#[tactic(auto, unfolding(crate::specs::GuestRecord::guest_stage_of))]
 pub fn guest_stage_of(code: u32) -> GuestStage
     ensures { result ≡ guest_stage_of code }
 {
@@ -37,14 +33,11 @@ pub fn guest_stage_of(code: u32) -> GuestStage
 pub fn clear_stage_code(stage: ClearStage) -> u32
     ensures { result ≡ clear_stage_code stage }
 {
-    match stage {
-        ClearStage::None => 0,
-        ClearStage::Read => 1,
-        ClearStage::Cas => 2,
-    }
+    stage as u32
 }
 
 // The stage of a code; none where it is no stage's.
+#[tactic(auto, unfolding(crate::specs::GuestRecord::clear_stage_of))]
 pub fn clear_stage_of(code: u32) -> ClearStage
     ensures { result ≡ clear_stage_of code }
 {
@@ -59,88 +52,73 @@ pub fn clear_stage_of(code: u32) -> ClearStage
 pub fn words_in(guest: &[u8]) -> u32
     ensures { result ≡ words_in guest.now }
 {
-    let short = guest.len() < layout::GUEST_SIZE;
-    if short {
+    if guest.len() < layout::GUEST_SIZE {
         return 0;
     }
     numbers::u32_at(guest, layout::WORDS)
 }
 
-pub(crate) fn service_at(guest: &[u8]) -> GuestCall
-    requires { guest_size ≤ length guest.now }
+#[tactic(auto, unfolding(crate::specs::GuestRecord::service_at))]
+pub(crate) fn service_at(guest: &GuestBytes) -> GuestCall
     ensures { result ≡ service_at guest.now }
 {
-    let code = numbers::u32_at(guest, layout::GUEST_STAGE);
-    let stage = guest_stage_of(code);
-    let port = numbers::u32_at(guest, layout::GUEST_PORT);
-    let queue = numbers::u32_at(guest, layout::GUEST_QUEUE);
-    let count = numbers::u32_at(guest, layout::GUEST_COUNT);
-    calls::records::guest_call_at(stage, Port(port), Queue(queue), count)
+    GuestCall {
+        stage: guest_stage_of(numbers::u32_at(guest, layout::GUEST_STAGE)),
+        port: Port(numbers::u32_at(guest, layout::GUEST_PORT)),
+        queue: Queue(numbers::u32_at(guest, layout::GUEST_QUEUE)),
+        count: numbers::u32_at(guest, layout::GUEST_COUNT),
+    }
 }
 
-pub(crate) fn put_service(guest: &mut [u8], call: GuestCall)
-    requires { guest_size ≤ length guest.old }
+#[tactic(auto, unfolding(crate::specs::GuestRecord::put_service))]
+pub(crate) fn put_service(guest: &mut GuestBytes, call: GuestCall)
     ensures { guest.new ≡ put_service guest.old call }
 {
-    let stage = call.stage;
-    let port = call.port;
-    let queue = call.queue;
-    let code = guest_stage_code(stage);
-    numbers::put_u32(guest, layout::GUEST_STAGE, code);
-    numbers::put_u32(guest, layout::GUEST_PORT, port.0);
-    numbers::put_u32(guest, layout::GUEST_QUEUE, queue.0);
+    numbers::put_u32(guest, layout::GUEST_STAGE, guest_stage_code(call.stage));
+    numbers::put_u32(guest, layout::GUEST_PORT, call.port.0);
+    numbers::put_u32(guest, layout::GUEST_QUEUE, call.queue.0);
     numbers::put_u32(guest, layout::GUEST_COUNT, call.count);
 }
 
 // Whether a clear_mask is under way, told by the code of its stage.
-pub(crate) fn is_clearing_at(guest: &[u8]) -> bool
-    requires { guest_size ≤ length guest.now }
+#[tactic(auto, using(crate::proofs::GuestLaws::clearing_is), unfolding(crate::specs::GuestRecord::clear_call_at))]
+pub(crate) fn is_clearing_at(guest: &GuestBytes) -> bool
     ensures { result ≡ is_clearing (clear_call_at guest.now).stage }
 {
     let stage = numbers::u32_at(guest, layout::CLEAR_STAGE);
-    let some = 0 < stage;
-    if some {
-        return stage < 3;
-    }
-    false
+    0 < stage && stage < 3
 }
 
-pub(crate) fn clear_call_at(guest: &[u8]) -> ClearCall
-    requires { guest_size ≤ length guest.now }
+#[tactic(auto, unfolding(crate::specs::GuestRecord::clear_call_at))]
+pub(crate) fn clear_call_at(guest: &GuestBytes) -> ClearCall
     ensures { result ≡ clear_call_at guest.now }
 {
-    let code = numbers::u32_at(guest, layout::CLEAR_STAGE);
-    let stage = clear_stage_of(code);
-    let port = numbers::u32_at(guest, layout::CLEAR_PORT);
-    let word = numbers::u32_at(guest, layout::CLEAR_WORD);
-    let count = numbers::u32_at(guest, layout::CLEAR_COUNT);
-    calls::records::clear_at(stage, Port(port), word, count)
+    ClearCall {
+        stage: clear_stage_of(numbers::u32_at(guest, layout::CLEAR_STAGE)),
+        port: Port(numbers::u32_at(guest, layout::CLEAR_PORT)),
+        word: numbers::u32_at(guest, layout::CLEAR_WORD),
+        count: numbers::u32_at(guest, layout::CLEAR_COUNT),
+    }
 }
 
-pub(crate) fn put_clear(guest: &mut [u8], call: ClearCall)
-    requires { guest_size ≤ length guest.old }
+#[tactic(auto, unfolding(crate::specs::GuestRecord::put_clear))]
+pub(crate) fn put_clear(guest: &mut GuestBytes, call: ClearCall)
     ensures { guest.new ≡ put_clear guest.old call }
 {
-    let stage = call.stage;
-    let port = call.port;
-    let code = clear_stage_code(stage);
-    numbers::put_u32(guest, layout::CLEAR_STAGE, code);
-    numbers::put_u32(guest, layout::CLEAR_PORT, port.0);
+    numbers::put_u32(guest, layout::CLEAR_STAGE, clear_stage_code(call.stage));
+    numbers::put_u32(guest, layout::CLEAR_PORT, call.port.0);
     numbers::put_u32(guest, layout::CLEAR_WORD, call.word);
     numbers::put_u32(guest, layout::CLEAR_COUNT, call.count);
 }
 
 // A record written whole.
-pub(crate) fn put_guest(bytes: &mut [u8], guest: Guest)
-    requires { guest_size ≤ length bytes.old }
+#[tactic(auto, unfolding(crate::specs::GuestRecord::put_guest))]
+pub(crate) fn put_guest(bytes: &mut GuestBytes, guest: Guest)
     ensures { bytes.new ≡ put_guest bytes.old guest }
 {
-    let heads = guest.heads;
-    let call = guest.call;
-    let clear = guest.clear;
-    numbers::put_values(bytes, layout::HEADS, heads);
+    numbers::put_values(bytes, layout::HEADS, guest.heads);
     numbers::put_u32(bytes, layout::READY, guest.ready);
     numbers::put_u32(bytes, layout::WORDS, guest.words);
-    put_service(bytes, call);
-    put_clear(bytes, clear);
+    put_service(bytes, guest.call);
+    put_clear(bytes, guest.clear);
 }

@@ -49,6 +49,14 @@ pub const CLEAR_WORD: usize = 96;
 
 pub const CLEAR_COUNT: usize = 100;
 
+// The bytes of a record that is long enough, without those beyond it, and of a ledger's entry that is there: functions on these need no
+// clause on a length.
+pub(crate) type DomainBytes = [u8; DOMAIN_SIZE];
+
+pub(crate) type GuestBytes = [u8; GUEST_SIZE];
+
+pub(crate) type EntryBytes = [u8; 2];
+
 // The number of this layout. It changes with any place, size or code.
 pub fn evtchn_fifo_layout() -> u32
     ensures { result ≡ layout_number }

@@ -1,26 +1,24 @@
 // The hypervisor's replies on bytes, a function for each stage of the call under way. Each path of a stage writes the words that
 // it changes and names what comes next by itself: where paths met before they write, the compiler would carry every word of the
-// record and of the answer to that place. Only a bind's, a close's and R2's reply are lent the ledger.
-ghost use Rattle.std.specs.Prelude.{◌≡◌, true, false, ℕ, ◌≤◌, length, ltb};
+// record and of the answer to that place. Only a bind's, a close's and R2's reply are lent the port's entry.
+ghost use Rattle.std.specs.Prelude.{◌≡◌, ℕ};
 ghost use Rattle.word.specs.Word.{link_bits};
 ghost use Rattle.word.specs.Entry.{last_queue};
-ghost use Rattle.calls.specs.Records.{is_free};
-ghost use Rattle.calls.specs.Hypervisor.{named, stale_queue, reply_r1, reply_u1, reply_bind, reply_close, reply_first, reply_r2, reply_r3, after_first_cas, after_later_cas, reply_r4, reply_set_busy, reply_clear_busy, reply_r5, reply_r6, ends_tailed};
-ghost use Rattle.evtchn_fifo.specs.DomainRecord.{domain_size, call_at, view_at, tail_at, put_call, put_tail, put_end};
-ghost use Rattle.evtchn_fifo.specs.Encoded.{unpacked, wrote, carried, encoded_answer, encoded_access};
-ghost use Rattle.evtchn_fifo.specs.Ledger.{entries};
-ghost use Rattle.evtchn_fifo.specs.Hypervisor.{move_bytes, moved_bytes, move_at};
-ghost use Rattle.evtchn_fifo.specs.InPlace.{entry_of, to_r2, to_r4, to_clear_busy, to_r5, from_r2, under_way};
+ghost use Rattle.calls.specs.Hypervisor.{stale_queue, reply_r1, reply_u1, reply_bind, reply_close, reply_first, reply_r2, reply_r3, after_first_cas, after_later_cas, reply_r4, reply_set_busy, reply_clear_busy, reply_r5, reply_r6, ends_tailed};
+ghost use Rattle.evtchn_fifo.specs.DomainRecord.{call_at, view_at, tail_at, put_next, put_tail, put_end};
+ghost use Rattle.evtchn_fifo.specs.Encoded.{unpacked, wrote, encoded_answer, encoded_access};
+ghost use Rattle.evtchn_fifo.specs.Hypervisor.{move_at};
+ghost use Rattle.evtchn_fifo.specs.InPlace.{in_place, entry_at, put_entry_at, to_r2, to_r4, to_clear_busy, to_r5, from_r2};
 
 use crate::encoded::PackedNext;
-use crate::{domain_record, encoded, layout, ledger, numbers};
+use crate::layout::{DomainBytes, EntryBytes};
+use crate::{domain_record, encoded, layout, numbers};
 use calls::hypervisor::stage;
 use calls::types::{Access, Answer, Call, Owner, Place, Stage};
 use word::{Flag, Port, Queue};
 
 // The call ends.
-fn ends(domain: &mut [u8], answer: Answer, count: u32) -> PackedNext
-    requires { domain_size ≤ length domain.old }
+fn ends(domain: &mut DomainBytes, answer: Answer, count: u32) -> PackedNext
     ensures { wrote (unpacked result) domain.new ≡ wrote (encoded_answer answer count) (put_end domain.old) }
 {
     numbers::put_u32(domain, layout::OWNER, 0);
@@ -28,47 +26,41 @@ fn ends(domain: &mut [u8], answer: Answer, count: u32) -> PackedNext
 }
 
 // It goes on with an access.
-fn goes_on(domain: &mut [u8], call: Call, access: Access) -> PackedNext
-    requires { (domain_size ≤ length domain.old) × (is_free (call_at domain.old).owner ≡ false) }
-    ensures { wrote (unpacked result) domain.new ≡ wrote (encoded_access access) (put_call domain.old (under_way (call_at domain.old) call)) }
+fn goes_on(domain: &mut DomainBytes, call: Call, access: Access) -> PackedNext
+    ensures { wrote (unpacked result) domain.new ≡ wrote (encoded_access access) (put_next domain.old call) }
 {
     domain_record::put_next(domain, call);
     encoded::encoded_access(access)
 }
 
-fn to_r2(domain: &mut [u8]) -> PackedNext
-    requires { (domain_size ≤ length domain.old) × (is_free (call_at domain.old).owner ≡ false) }
+fn to_r2(domain: &mut DomainBytes) -> PackedNext
     ensures { wrote (unpacked result) domain.new ≡ to_r2 domain.old }
 {
     let call = domain_record::call_at(domain);
-    let port = call.port;
-    let next = stage::named(call, Stage::R2, Queue(0));
-    let operand = word::event::mask(Flag::Linked);
-    goes_on(domain, next, Access::Or(Place::Word(port), operand))
+    goes_on(
+        domain,
+        stage::named(call, Stage::R2, Queue(0)),
+        Access::Or(Place::Word(call.port), word::event::mask(Flag::Linked)),
+    )
 }
 
-fn to_r5(domain: &mut [u8], queue: Queue) -> PackedNext
-    requires { (domain_size ≤ length domain.old) × (is_free (call_at domain.old).owner ≡ false) }
+fn to_r5(domain: &mut DomainBytes, queue: Queue) -> PackedNext
     ensures { wrote (unpacked result) domain.new ≡ to_r5 domain.old queue }
 {
     let call = domain_record::call_at(domain);
-    let port = call.port;
-    let next = stage::named(call, Stage::R5, queue);
-    goes_on(domain, next, Access::Store(Place::Head(queue), port.0))
+    goes_on(
+        domain,
+        stage::named(call, Stage::R5, queue),
+        Access::Store(Place::Head(queue), call.port.0),
+    )
 }
 
 // R1: masked or linked ends the call; else R2.
-fn reply_r1(domain: &mut [u8], seen: u32) -> PackedNext
-    requires { (domain_size ≤ length domain.old) × (is_free (call_at domain.old).owner ≡ false) }
-    ensures { (e : ℕ) → wrote (unpacked result) domain.new ≡ move_bytes link_bits domain.old (reply_r1 (call_at domain.old) e seen) }
+#[tactic(auto, unfolding(calls::specs::Hypervisor::reply_r1, crate::specs::InPlace::in_place, crate::specs::Numbers::put_value, calls::specs::Hypervisor::due))]
+fn reply_r1(domain: &mut DomainBytes, seen: u32) -> PackedNext
+    ensures { (e : ℕ) → wrote (unpacked result) domain.new ≡ in_place link_bits domain.old (reply_r1 (call_at domain.old) e seen) }
 {
-    let masked = word::event::has(seen, Flag::Masked);
-    if masked {
-        let call = domain_record::call_at(domain);
-        return ends(domain, Answer::Done, call.count);
-    }
-    let linked = word::event::has(seen, Flag::Linked);
-    if linked {
+    if word::event::has(seen, Flag::Masked) || word::event::has(seen, Flag::Linked) {
         let call = domain_record::call_at(domain);
         return ends(domain, Answer::Done, call.count);
     }
@@ -76,17 +68,11 @@ fn reply_r1(domain: &mut [u8], seen: u32) -> PackedNext
 }
 
 // U1: pending and not linked goes on at R2.
-fn reply_u1(domain: &mut [u8], seen: u32) -> PackedNext
-    requires { (domain_size ≤ length domain.old) × (is_free (call_at domain.old).owner ≡ false) }
-    ensures { (e : ℕ) → wrote (unpacked result) domain.new ≡ move_bytes link_bits domain.old (reply_u1 (call_at domain.old) e seen) }
+#[tactic(auto, unfolding(calls::specs::Hypervisor::reply_u1, crate::specs::InPlace::in_place, crate::specs::Numbers::put_value, calls::specs::Hypervisor::due))]
+fn reply_u1(domain: &mut DomainBytes, seen: u32) -> PackedNext
+    ensures { (e : ℕ) → wrote (unpacked result) domain.new ≡ in_place link_bits domain.old (reply_u1 (call_at domain.old) e seen) }
 {
-    let quiet = !word::event::has(seen, Flag::Pending);
-    if quiet {
-        let call = domain_record::call_at(domain);
-        return ends(domain, Answer::Done, call.count);
-    }
-    let linked = word::event::has(seen, Flag::Linked);
-    if linked {
+    if !word::event::has(seen, Flag::Pending) || word::event::has(seen, Flag::Linked) {
         let call = domain_record::call_at(domain);
         return ends(domain, Answer::Done, call.count);
     }
@@ -94,286 +80,261 @@ fn reply_u1(domain: &mut [u8], seen: u32) -> PackedNext
 }
 
 // A bind's read: an old event that is still linked refuses it (7).
-fn reply_bind(domain: &mut [u8], ledger: &mut [u8], seen: u32) -> PackedNext
-    requires { (domain_size ≤ length domain.old) × (is_free (call_at domain.old).owner ≡ false) × (ltb (call_at domain.old).port.0 (entries ledger.old) ≡ true) }
-    ensures { carried (unpacked result) domain.new ledger.new ≡ moved_bytes link_bits domain.old ledger.old (call_at domain.old).port.0 (reply_bind (call_at domain.old) (entry_of domain.old ledger.old) seen) }
+#[tactic(auto, using(crate::proofs::NumberLaws::put_same), unfolding(calls::specs::Hypervisor::reply_bind, crate::specs::InPlace::in_place, crate::specs::Numbers::put_value, calls::specs::Hypervisor::due))]
+fn reply_bind(domain: &mut DomainBytes, entry: &mut EntryBytes, seen: u32) -> PackedNext
+    ensures domain { wrote (unpacked result) domain.new ≡ in_place link_bits domain.old (reply_bind (call_at domain.old) (entry_at entry.old) seen) }
+    ensures entry { entry.new ≡ put_entry_at entry.old (reply_bind (call_at domain.old) (entry_at entry.old) seen).entry }
 {
     let call = domain_record::call_at(domain);
-    let linked = word::event::has(seen, Flag::Linked);
-    if linked {
+    if word::event::has(seen, Flag::Linked) {
         return ends(domain, Answer::StillLinked, call.count);
     }
-    let port = call.port;
-    let entry = ledger::entry_of(ledger, port);
-    let bound = word::entry::bound_entry(entry);
-    ledger::put_entry(ledger, port, bound);
+    let bound = word::entry::bound_entry(numbers::u16_at(entry, 0));
+    numbers::put_u16(entry, 0, bound);
     ends(domain, Answer::Done, call.count)
 }
 
 // A close's and.
-fn reply_close(domain: &mut [u8], ledger: &mut [u8]) -> PackedNext
-    requires { (domain_size ≤ length domain.old) × (is_free (call_at domain.old).owner ≡ false) × (ltb (call_at domain.old).port.0 (entries ledger.old) ≡ true) }
-    ensures { carried (unpacked result) domain.new ledger.new ≡ moved_bytes link_bits domain.old ledger.old (call_at domain.old).port.0 (reply_close (call_at domain.old) (entry_of domain.old ledger.old)) }
+#[tactic(auto, unfolding(calls::specs::Hypervisor::reply_close, crate::specs::InPlace::in_place, crate::specs::Numbers::put_value, calls::specs::Hypervisor::due))]
+fn reply_close(domain: &mut DomainBytes, entry: &mut EntryBytes) -> PackedNext
+    ensures domain { wrote (unpacked result) domain.new ≡ in_place link_bits domain.old (reply_close (call_at domain.old) (entry_at entry.old)) }
+    ensures entry { entry.new ≡ put_entry_at entry.old (reply_close (call_at domain.old) (entry_at entry.old)).entry }
 {
     let call = domain_record::call_at(domain);
-    let port = call.port;
-    let entry = ledger::entry_of(ledger, port);
-    let closed = word::entry::closed_entry(entry);
-    ledger::put_entry(ledger, port, closed);
+    let closed = word::entry::closed_entry(numbers::u16_at(entry, 0));
+    numbers::put_u16(entry, 0, closed);
     ends(domain, Answer::Done, call.count)
 }
 
 // The owner's first access.
-fn reply_first(domain: &mut [u8], ledger: &mut [u8], seen: u32) -> PackedNext
-    requires { (domain_size ≤ length domain.old) × (is_free (call_at domain.old).owner ≡ false) × (ltb (call_at domain.old).port.0 (entries ledger.old) ≡ true) }
-    ensures { carried (unpacked result) domain.new ledger.new ≡ moved_bytes link_bits domain.old ledger.old (call_at domain.old).port.0 (reply_first (call_at domain.old) (entry_of domain.old ledger.old) seen) }
+#[tactic(auto, using(crate::proofs::NumberLaws::put_same, crate::proofs::ReplyLaws::r1_entry, crate::proofs::ReplyLaws::u1_entry), unfolding(calls::specs::Hypervisor::reply_first, crate::specs::DomainRecord::call_at, crate::specs::InPlace::in_place, crate::specs::Numbers::put_value, calls::specs::Hypervisor::due))]
+fn reply_first(domain: &mut DomainBytes, entry: &mut EntryBytes, seen: u32) -> PackedNext
+    ensures domain { wrote (unpacked result) domain.new ≡ in_place link_bits domain.old (reply_first (call_at domain.old) (entry_at entry.old) seen) }
+    ensures entry { entry.new ≡ put_entry_at entry.old (reply_first (call_at domain.old) (entry_at entry.old) seen).entry }
 {
-    let call = domain_record::call_at(domain);
-    let owner = call.owner;
-    match owner {
+    match domain_record::owner_at(domain) {
         Owner::None => ends(domain, Answer::NoCall, 0),
-        Owner::Bind => reply_bind(domain, ledger, seen),
-        Owner::Close => reply_close(domain, ledger),
+        Owner::Bind => reply_bind(domain, entry, seen),
+        Owner::Close => reply_close(domain, entry),
         Owner::Raise => reply_r1(domain, seen),
         Owner::Unmask => reply_u1(domain, seen),
     }
 }
 
 // R2, the rule on a moved port: its last queue loses its tail where that is the port and the queue is another.
-fn clear_stale(domain: &mut [u8], entry: u16, port: Port, queue: Queue)
-    requires { domain_size ≤ length domain.old }
+#[tactic(auto, unfolding(calls::specs::Hypervisor::stale_queue, crate::specs::Numbers::put_value))]
+fn clear_stale(domain: &mut DomainBytes, entry: u16, port: Port, queue: Queue)
     ensures { domain.new ≡ put_tail domain.old (stale_queue entry port queue (tail_at domain.old (last_queue entry))).0 0 }
 {
-    let never = !word::entry::has_been_linked(entry);
-    if never {
+    if !word::entry::has_been_linked(entry) {
         return;
     }
     let last = word::entry::last_queue(entry);
-    let same = last.0 == queue.0;
-    if same {
+    if last.0 == queue.0 {
         return;
     }
     let former = numbers::value_at(domain, layout::TAILS, last);
-    let own = former == port.0;
-    if own {
+    if former == port.0 {
         numbers::put_value(domain, layout::TAILS, last, 0);
     }
 }
 
 // R2: the queue is the entry's priority now.
-fn reply_r2(domain: &mut [u8], ledger: &mut [u8], seen: u32) -> PackedNext
-    requires { (domain_size ≤ length domain.old) × (is_free (call_at domain.old).owner ≡ false) × (ltb (call_at domain.old).port.0 (entries ledger.old) ≡ true) }
-    ensures { carried (unpacked result) domain.new ledger.new ≡ moved_bytes link_bits domain.old ledger.old (call_at domain.old).port.0 (reply_r2 (call_at domain.old) (entry_of domain.old ledger.old) (view_at domain.old (entry_of domain.old ledger.old)) seen) }
+#[tactic(auto, using(crate::proofs::NumberLaws::put_same), unfolding(calls::specs::Hypervisor::reply_r2, crate::specs::InPlace::in_place, crate::specs::Numbers::put_value))]
+fn reply_r2(domain: &mut DomainBytes, entry: &mut EntryBytes, seen: u32) -> PackedNext
+    ensures domain { wrote (unpacked result) domain.new ≡ in_place link_bits domain.old (reply_r2 (call_at domain.old) (entry_at entry.old) (view_at domain.old (entry_at entry.old)) seen) }
+    ensures entry { entry.new ≡ put_entry_at entry.old (reply_r2 (call_at domain.old) (entry_at entry.old) (view_at domain.old (entry_at entry.old)) seen).entry }
 {
     let call = domain_record::call_at(domain);
-    let linked = word::event::has(seen, Flag::Linked);
-    if linked {
+    if word::event::has(seen, Flag::Linked) {
         return ends(domain, Answer::Done, call.count);
     }
-    let port = call.port;
-    let entry = ledger::entry_of(ledger, port);
-    let priority = word::entry::priority_of(entry);
-    let queue = word::entry::queue_of(priority);
-    let moved = word::entry::linked_entry(entry, queue);
-    ledger::put_entry(ledger, port, moved);
-    clear_stale(domain, entry, port, queue);
+    let old = numbers::u16_at(entry, 0);
+    let queue = word::entry::queue_of(word::entry::priority_of(old));
+    numbers::put_u16(entry, 0, word::entry::linked_entry(old, queue));
+    clear_stale(domain, old, call.port, queue);
     from_r2(domain, queue)
 }
 
 // After R2: R5 where the queue has no tail or the port itself as its tail, else R3.
-fn from_r2(domain: &mut [u8], queue: Queue) -> PackedNext
-    requires { (domain_size ≤ length domain.old) × (is_free (call_at domain.old).owner ≡ false) }
+fn from_r2(domain: &mut DomainBytes, queue: Queue) -> PackedNext
     ensures { wrote (unpacked result) domain.new ≡ from_r2 domain.old queue }
 {
     let call = domain_record::call_at(domain);
-    let port = call.port;
     let tail = numbers::value_at(domain, layout::TAILS, queue);
-    let none = tail == 0;
-    if none {
+    if tail == 0 {
         return to_r5(domain, queue);
     }
-    let own = tail == port.0;
-    if own {
+    // Joined by ||, the compiler makes both ways and picks one: 11 instructions more a raise.
+    if tail == call.port.0 {
         return to_r5(domain, queue);
     }
-    let next = stage::named(call, Stage::R3, queue);
-    goes_on(domain, next, Access::Read(Place::Word(Port(tail))))
+    goes_on(
+        domain,
+        stage::named(call, Stage::R3, queue),
+        Access::Read(Place::Word(Port(tail))),
+    )
 }
 
 // A cas of the tail's word is named; tries counts the cas named, with this one.
-fn to_r4(domain: &mut [u8], tries: u32, word: u32) -> PackedNext
-    requires { (domain_size ≤ length domain.old) × (is_free (call_at domain.old).owner ≡ false) }
+fn to_r4(domain: &mut DomainBytes, tries: u32, word: u32) -> PackedNext
     ensures { wrote (unpacked result) domain.new ≡ to_r4 link_bits domain.old tries word }
 {
     let call = domain_record::call_at(domain);
-    let queue = call.queue;
-    let port = call.port;
-    let next = stage::comparing(call, tries, word);
-    let tail = numbers::value_at(domain, layout::TAILS, queue);
-    let new = stage::linking_word(word, port);
+    let tail = numbers::value_at(domain, layout::TAILS, call.queue);
     goes_on(
         domain,
-        next,
-        Access::Cas(Place::Word(Port(tail)), word, new),
+        stage::comparing(call, tries, word),
+        Access::Cas(
+            Place::Word(Port(tail)),
+            word,
+            stage::linking_word(word, call.port),
+        ),
     )
 }
 
 // The and that clears BUSY of the tail's word is named; word is the latest word seen.
-fn to_clear_busy(domain: &mut [u8], word: u32) -> PackedNext
-    requires { (domain_size ≤ length domain.old) × (is_free (call_at domain.old).owner ≡ false) }
+fn to_clear_busy(domain: &mut DomainBytes, word: u32) -> PackedNext
     ensures { wrote (unpacked result) domain.new ≡ to_clear_busy domain.old word }
 {
     let call = domain_record::call_at(domain);
-    let queue = call.queue;
-    let next = stage::clearing(call, word);
-    let tail = numbers::value_at(domain, layout::TAILS, queue);
-    let operand = word::event::all_but(Flag::Busy);
-    goes_on(domain, next, Access::And(Place::Word(Port(tail)), operand))
+    let tail = numbers::value_at(domain, layout::TAILS, call.queue);
+    goes_on(
+        domain,
+        stage::clearing(call, word),
+        Access::And(Place::Word(Port(tail)), word::event::all_but(Flag::Busy)),
+    )
 }
 
 // The call ends, and its port is its queue's tail.
-fn ends_tailed(domain: &mut [u8], answer: Answer) -> PackedNext
-    requires { domain_size ≤ length domain.old }
-    ensures { (e : ℕ) → wrote (unpacked result) domain.new ≡ move_bytes link_bits domain.old (ends_tailed e (call_at domain.old) answer) }
+#[tactic(auto, unfolding(crate::specs::InPlace::in_place))]
+fn ends_tailed(domain: &mut DomainBytes, answer: Answer) -> PackedNext
+    ensures { (e : ℕ) → wrote (unpacked result) domain.new ≡ in_place link_bits domain.old (ends_tailed e (call_at domain.old) answer) }
 {
     let call = domain_record::call_at(domain);
-    let queue = call.queue;
-    let port = call.port;
-    numbers::put_value(domain, layout::TAILS, queue, port.0);
+    numbers::put_value(domain, layout::TAILS, call.queue, call.port.0);
     ends(domain, answer, call.count)
 }
 
 // R3: a word without LINKED goes on at R5; else the first cas, of that very word.
-fn reply_r3(domain: &mut [u8], seen: u32) -> PackedNext
-    requires { (domain_size ≤ length domain.old) × (is_free (call_at domain.old).owner ≡ false) }
-    ensures { (e : ℕ) → wrote (unpacked result) domain.new ≡ move_bytes link_bits domain.old (reply_r3 (call_at domain.old) e seen) }
+#[tactic(auto, unfolding(calls::specs::Hypervisor::reply_r3, crate::specs::InPlace::in_place, crate::specs::Numbers::put_value, calls::specs::Hypervisor::due))]
+fn reply_r3(domain: &mut DomainBytes, seen: u32) -> PackedNext
+    ensures { (e : ℕ) → wrote (unpacked result) domain.new ≡ in_place link_bits domain.old (reply_r3 (call_at domain.old) e seen) }
 {
-    let unlinked = !word::event::has(seen, Flag::Linked);
-    if unlinked {
-        let call = domain_record::call_at(domain);
-        let queue = call.queue;
-        return to_r5(domain, queue);
+    if word::event::has(seen, Flag::Linked) {
+        return to_r4(domain, 1, seen);
     }
-    to_r4(domain, 1, seen)
+    let call = domain_record::call_at(domain);
+    to_r5(domain, call.queue)
 }
 
 // R4's first cas is not taken: R5 where the word seen lacks LINKED, else BUSY is set.
-fn after_first_cas(domain: &mut [u8], seen: u32) -> PackedNext
-    requires { (domain_size ≤ length domain.old) × (is_free (call_at domain.old).owner ≡ false) }
-    ensures { (e : ℕ) → wrote (unpacked result) domain.new ≡ move_bytes link_bits domain.old (after_first_cas (call_at domain.old) e seen) }
+#[tactic(auto, unfolding(calls::specs::Hypervisor::after_first_cas, crate::specs::InPlace::in_place, crate::specs::Numbers::put_value, calls::specs::Hypervisor::due))]
+fn after_first_cas(domain: &mut DomainBytes, seen: u32) -> PackedNext
+    ensures { (e : ℕ) → wrote (unpacked result) domain.new ≡ in_place link_bits domain.old (after_first_cas (call_at domain.old) e seen) }
 {
     let call = domain_record::call_at(domain);
-    let queue = call.queue;
-    let unlinked = !word::event::has(seen, Flag::Linked);
-    if unlinked {
-        return to_r5(domain, queue);
+    if !word::event::has(seen, Flag::Linked) {
+        return to_r5(domain, call.queue);
     }
-    let next = stage::named(call, Stage::SetBusy, queue);
-    let tail = numbers::value_at(domain, layout::TAILS, queue);
-    let operand = word::event::mask(Flag::Busy);
-    goes_on(domain, next, Access::Or(Place::Word(Port(tail)), operand))
+    let tail = numbers::value_at(domain, layout::TAILS, call.queue);
+    goes_on(
+        domain,
+        stage::named(call, Stage::SetBusy, call.queue),
+        Access::Or(Place::Word(Port(tail)), word::event::mask(Flag::Busy)),
+    )
 }
 
 // A later one is not taken: BUSY is cleared where the word seen lacks LINKED and after the fifth cas; else another cas.
-fn after_later_cas(domain: &mut [u8], seen: u32) -> PackedNext
-    requires { (domain_size ≤ length domain.old) × (is_free (call_at domain.old).owner ≡ false) }
-    ensures { (e : ℕ) → wrote (unpacked result) domain.new ≡ move_bytes link_bits domain.old (after_later_cas (call_at domain.old) e seen) }
+#[tactic(auto, unfolding(calls::specs::Hypervisor::after_later_cas, crate::specs::InPlace::in_place, crate::specs::Numbers::put_value, calls::specs::Hypervisor::due))]
+fn after_later_cas(domain: &mut DomainBytes, seen: u32) -> PackedNext
+    ensures { (e : ℕ) → wrote (unpacked result) domain.new ≡ in_place link_bits domain.old (after_later_cas (call_at domain.old) e seen) }
 {
     let call = domain_record::call_at(domain);
-    let unlinked = !word::event::has(seen, Flag::Linked);
-    if unlinked {
-        return to_clear_busy(domain, seen);
-    }
-    let last = 5 <= call.tries;
-    if last {
+    if !word::event::has(seen, Flag::Linked) || 5 <= call.tries {
         return to_clear_busy(domain, seen);
     }
     to_r4(domain, call.tries + 1, seen)
 }
 
 // R4's cas: taken ends the call.
-fn reply_r4(domain: &mut [u8], seen: u32) -> PackedNext
-    requires { (domain_size ≤ length domain.old) × (is_free (call_at domain.old).owner ≡ false) }
-    ensures { (e : ℕ) → wrote (unpacked result) domain.new ≡ move_bytes link_bits domain.old (reply_r4 (call_at domain.old) e seen) }
+#[tactic(auto, unfolding(calls::specs::Hypervisor::reply_r4))]
+fn reply_r4(domain: &mut DomainBytes, seen: u32) -> PackedNext
+    ensures { (e : ℕ) → wrote (unpacked result) domain.new ≡ in_place link_bits domain.old (reply_r4 (call_at domain.old) e seen) }
 {
     let call = domain_record::call_at(domain);
-    let taken = word::effect::cas_taken(seen, call.word);
-    if taken {
+    if word::effect::cas_taken(seen, call.word) {
         return ends_tailed(domain, Answer::Done);
     }
-    let first = call.tries <= 1;
-    if first {
+    if call.tries <= 1 {
         return after_first_cas(domain, seen);
     }
     after_later_cas(domain, seen)
 }
 
 // BUSY is set: the second cas compares with the word seen and BUSY.
-fn reply_set_busy(domain: &mut [u8], seen: u32) -> PackedNext
-    requires { (domain_size ≤ length domain.old) × (is_free (call_at domain.old).owner ≡ false) }
-    ensures { (e : ℕ) → wrote (unpacked result) domain.new ≡ move_bytes link_bits domain.old (reply_set_busy (call_at domain.old) e seen) }
+#[tactic(auto, unfolding(calls::specs::Hypervisor::reply_set_busy, crate::specs::InPlace::in_place, crate::specs::Numbers::put_value, calls::specs::Hypervisor::due))]
+fn reply_set_busy(domain: &mut DomainBytes, seen: u32) -> PackedNext
+    ensures { (e : ℕ) → wrote (unpacked result) domain.new ≡ in_place link_bits domain.old (reply_set_busy (call_at domain.old) e seen) }
 {
-    let unlinked = !word::event::has(seen, Flag::Linked);
-    if unlinked {
+    if !word::event::has(seen, Flag::Linked) {
         return to_clear_busy(domain, seen);
     }
-    let operand = word::event::mask(Flag::Busy);
-    let standing = word::effect::after_or(seen, operand);
-    to_r4(domain, 2, standing)
+    let busy = word::event::mask(Flag::Busy);
+    to_r4(domain, 2, word::effect::after_or(seen, busy))
 }
 
 // BUSY is cleared: R5 where the latest word seen lacks LINKED; else the link is abandoned.
-fn reply_clear_busy(domain: &mut [u8]) -> PackedNext
-    requires { (domain_size ≤ length domain.old) × (is_free (call_at domain.old).owner ≡ false) }
-    ensures { (e : ℕ) → wrote (unpacked result) domain.new ≡ move_bytes link_bits domain.old (reply_clear_busy (call_at domain.old) e) }
+#[tactic(auto, using(crate::proofs::ReplyLaws::r5_in_place), unfolding(calls::specs::Hypervisor::reply_clear_busy))]
+fn reply_clear_busy(domain: &mut DomainBytes) -> PackedNext
+    ensures { (e : ℕ) → wrote (unpacked result) domain.new ≡ in_place link_bits domain.old (reply_clear_busy (call_at domain.old) e) }
 {
     let call = domain_record::call_at(domain);
-    let linked = word::event::has(call.word, Flag::Linked);
-    if linked {
+    if word::event::has(call.word, Flag::Linked) {
         return ends_tailed(domain, Answer::LinkAbandoned);
     }
-    let queue = call.queue;
-    to_r5(domain, queue)
+    to_r5(domain, call.queue)
 }
 
 // R5: the port is its queue's tail, and R6 follows.
-fn reply_r5(domain: &mut [u8]) -> PackedNext
-    requires { (domain_size ≤ length domain.old) × (is_free (call_at domain.old).owner ≡ false) }
-    ensures { (e : ℕ) → wrote (unpacked result) domain.new ≡ move_bytes link_bits domain.old (reply_r5 (call_at domain.old) e) }
+#[tactic(auto, using(crate::proofs::DomainLaws::call_apart), unfolding(calls::specs::Hypervisor::reply_r5, crate::specs::InPlace::in_place, calls::specs::Hypervisor::due))]
+fn reply_r5(domain: &mut DomainBytes) -> PackedNext
+    ensures { (e : ℕ) → wrote (unpacked result) domain.new ≡ in_place link_bits domain.old (reply_r5 (call_at domain.old) e) }
 {
     let call = domain_record::call_at(domain);
-    let queue = call.queue;
-    let port = call.port;
-    numbers::put_value(domain, layout::TAILS, queue, port.0);
-    let next = stage::named(call, Stage::R6, queue);
-    let operand = word::ready::ready_mask(queue);
-    goes_on(domain, next, Access::Or(Place::Ready, operand))
+    numbers::put_value(domain, layout::TAILS, call.queue, call.port.0);
+    goes_on(
+        domain,
+        stage::named(call, Stage::R6, call.queue),
+        Access::Or(Place::Ready, word::ready::ready_mask(call.queue)),
+    )
 }
 
 // R6: an upcall is wanted if the bit was clear.
-fn reply_r6(domain: &mut [u8], seen: u32) -> PackedNext
-    requires { (domain_size ≤ length domain.old) × (is_free (call_at domain.old).owner ≡ false) }
-    ensures { (e : ℕ) → wrote (unpacked result) domain.new ≡ move_bytes link_bits domain.old (reply_r6 (call_at domain.old) e seen) }
+#[tactic(auto, unfolding(calls::specs::Hypervisor::reply_r6, crate::specs::InPlace::in_place, crate::specs::Numbers::put_value))]
+fn reply_r6(domain: &mut DomainBytes, seen: u32) -> PackedNext
+    ensures { (e : ℕ) → wrote (unpacked result) domain.new ≡ in_place link_bits domain.old (reply_r6 (call_at domain.old) e seen) }
 {
     let call = domain_record::call_at(domain);
-    let queue = call.queue;
-    let ready = word::ready::is_ready(seen, queue);
-    if ready {
+    if word::ready::is_ready(seen, call.queue) {
         return ends(domain, Answer::Done, call.count);
     }
     ends(domain, Answer::UpcallWanted, call.count)
 }
 
 // The reply of the call's stage.
-pub(crate) fn reply_staged(domain: &mut [u8], ledger: &mut [u8], seen: u32) -> PackedNext
-    requires { (domain_size ≤ length domain.old) × (is_free (call_at domain.old).owner ≡ false) × (ltb (call_at domain.old).port.0 (entries ledger.old) ≡ true) }
-    ensures { carried (unpacked result) domain.new ledger.new ≡ moved_bytes link_bits domain.old ledger.old (call_at domain.old).port.0 (move_at domain.old (entry_of domain.old ledger.old) seen) }
+#[tactic(auto, using(crate::proofs::ReplyLaws::staged_entries, crate::proofs::NumberLaws::put_same), unfolding(calls::specs::Hypervisor::staged, crate::specs::DomainRecord::call_at))]
+pub(crate) fn reply_staged(
+    domain: &mut DomainBytes,
+    entry: &mut EntryBytes,
+    seen: u32,
+) -> PackedNext
+    ensures domain { wrote (unpacked result) domain.new ≡ in_place link_bits domain.old (move_at domain.old (entry_at entry.old) seen) }
+    ensures entry { entry.new ≡ put_entry_at entry.old (move_at domain.old (entry_at entry.old) seen).entry }
 {
-    let code = numbers::u32_at(domain, layout::STAGE);
-    let stage = domain_record::stage_of(code);
-    match stage {
-        Stage::First => reply_first(domain, ledger, seen),
-        Stage::R2 => reply_r2(domain, ledger, seen),
+    match domain_record::stage_of(numbers::u32_at(domain, layout::STAGE)) {
+        Stage::First => reply_first(domain, entry, seen),
+        Stage::R2 => reply_r2(domain, entry, seen),
         Stage::R3 => reply_r3(domain, seen),
         Stage::R4 => reply_r4(domain, seen),
         Stage::SetBusy => reply_set_busy(domain, seen),

@@ -1,8 +1,7 @@
 -- `evtchn_fifo::hypervisor::evtchn_fifo_bytes_unmask` meets its contract. Assumes nothing.
-use Rattle.calls.specs.Records.{is_free}
-use mathlib.Core.Path.{refl}
+use Rattle.word.specs.Word.{link_bits}
+use Rattle.evtchn_fifo.proofs.DomainFront.{on_port_front}
 use Rattle.evtchn_fifo.proofs.hypervisor.evtchn_fifo_bytes_unmask.Goals as goal
 
-pub link_call-requires : goal.link_call-requires
-unfolding is_free
-link_call-requires c = refl
+pub returns : goal.returns
+returns c = on_port_front c.in-Some.ensures.cases link_bits _ _ _ (simp (← c.next_or_answer.ensures, c.narrowed.ensures) at c.link.ensures)

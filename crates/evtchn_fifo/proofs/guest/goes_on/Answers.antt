@@ -1,5 +1,0 @@
--- `evtchn_fifo::guest::goes_on_lem` meets its contract. Assumes nothing.
-use Rattle.evtchn_fifo.proofs.guest.goes_on.Goals as goal
-
-pub returns : goal.returns
-returns c = simp (c.encoded_access.ensures, c.put_service.ensures)
