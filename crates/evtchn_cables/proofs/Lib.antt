@@ -1,5 +1,4 @@
 pub mod SlotLaws
 pub mod RefusalLaws
-pub mod ClosingLaws
 pub mod TableMeaning
 pub mod Meaning

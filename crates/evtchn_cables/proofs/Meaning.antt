@@ -1,41 +1,39 @@
 -- The exported functions are T-01's calls on what the bytes are.
 -- Assumes nothing.
 use Prim.Native.Nat.{ℕ, ◌+◌, ◌≤◌, ◌<◌}
-use mathlib.Core.Path.{◌≡◌, refl, sym, ap, ◌∙◌, subst}
-use mathlib.Core.Bool.{Bool, true, false, cond, not, ◌||◌, false≢true}
+use mathlib.Core.Path.{◌≡◌, sym, ap, ◌∙◌}
+use mathlib.Core.Bool.{true, false, cond}
 use mathlib.Core.List.{List}
 use mathlib.Core.Logic.{◌≢◌}
 use native.Mathlib.Omega.{arith}
-use borrow.Author.Tests.{ltb-true, lt-ltb, le-ltb, eqb-true, ne_eqb}
+use borrow.Author.Tests.{lt-ltb, le-ltb, ne_eqb}
+use Rattle.std.proofs.lemmas.Bool.Decides.{nat_tests}
 use lib.ListN.{length, replicate, length-replicate, get_or-replicate}
 use lib.Seq.{ext_get_or}
-use lib.Dec.{eqb, ltb, leb}
+use lib.Dec.{eqb, ltb}
 use Rattle.word.specs.Word.{port_at}
 use Rattle.calls.specs.declared.types.Owner.{Owner}
-use Rattle.calls.specs.declared.types.Owner.TheVariants as owner
 use Rattle.calls.specs.declared.types.Access.{Access}
-use Rattle.calls.specs.declared.types.Access.TheVariants.{Read, Store, Or, And, Swap, Cas}
 use Rattle.calls.specs.declared.types.Call.{Call}
 use Rattle.calls.specs.declared.types.Place.{Place}
 use Rattle.calls.specs.declared.types.Next.{Next}
-use Rattle.calls.specs.declared.types.Next.TheVariants as next
 use Rattle.calls.specs.Records.{is_free, closing_port}
 use Rattle.calls.specs.Hypervisor.{close_start, reply_of}
 use Rattle.calls.proofs.Cases.{by_test}
 use Rattle.evtchn_fifo.specs.Numbers.{narrow}
 use Rattle.evtchn_fifo.specs.Encoded.{encoded_place, encoded_access, encoded_answer, encoded_next, place_code}
 use Rattle.evtchn_fifo.specs.Ledger.{ledger_at}
-use Rattle.evtchn_fifo.specs.DomainRecord.{domain_size, domain_at, or_idle, call_at, closing_in}
+use Rattle.evtchn_fifo.specs.DomainRecord.{domain_size, domain_at, or_idle, closing_in}
 use Rattle.evtchn_fifo.specs.Hypervisor.{close_bytes, reply_bytes}
 use Rattle.evtchn_fifo.specs.Claims.{Beyond}
 use Rattle.evtchn_fifo.proofs.LedgerLaws.{entry_is}
 use Rattle.evtchn_fifo.proofs.BeyondBytes.{stays}
 use Rattle.evtchn_fifo.proofs.Meaning.{domain_calls}
-use Rattle.cables.specs.Table.{Slot, empty, slot_count, domain_limit, end, slot_of, lowest_free, taken, has_space, cut_at}
+use Rattle.cables.specs.Table.{Slot, empty, slot_count, end, lowest_free, has_space}
 use Rattle.cables.specs.Rules.{port_refusal, join_refusal, lay_refusal, near_refusal, table_laid, table_cut, fallen_at, fallen, table_fallen}
 use Rattle.cables.specs.Claims.{fresh}
-use Rattle.evtchn_cables.specs.TableBytes.{table_size, table_at, cut_bytes}
-use Rattle.evtchn_cables.specs.Encoded.{port_refusal_bytes, is_short, lent_refusal, lay_code, lay_did, near_code, cut_did, far_found, fall_bytes, CarriedCables, close_cables, reply_cables}
+use Rattle.evtchn_cables.specs.TableBytes.{table_size, table_at}
+use Rattle.evtchn_cables.specs.Encoded.{port_refusal_bytes, is_short, lent_refusal, lay_code, lay_did, near_code, LayDid, cut_did, far_found, fall_bytes, CarriedCables, close_cables, reply_cables}
 use Rattle.evtchn_cables.specs.Claims.{meant, meant_lay, meant_cut, CableCalls}
 use Rattle.evtchn_cables.proofs.SlotLaws.{table_length, slot_at}
 use Rattle.evtchn_cables.proofs.TableMeaning.{table_put, table_cut_lem, zero_slot, slot_beyond, cut_beyond}
@@ -55,65 +53,31 @@ module _ (n : ℕ) (t r l : List ℕ) (d p : ℕ) (space : table_size ≤ length
 
   near_is : near_code n t r l d p ≡ near_refusal d (port_refusal n (domain_at r) (ledger_at l) p) (table_at t) (end d p)
   unfolding lent_refusal
-  near_is = rw (not_short) (ap (λ (c : ℕ). near_refusal d c (table_at t) (end d p)) (own_is n r l p whole))
+  near_is = rw (not_short, own_is n r l p whole)
 
   module _ (s m : List ℕ) (e q : ℕ) (far : domain_size ≤ length s) where
     lay_is : lay_code n t r l s m d p e q ≡ lay_refusal d e (port_refusal n (domain_at r) (ledger_at l) p) (port_refusal n (domain_at s) (ledger_at m) q) (table_at t) (end d p) (end e q)
     unfolding lay_code lent_refusal
-    lay_is =
-        rw (not_short, long domain_size s far)
-        (ap (λ (c : ℕ). lay_refusal d e c (port_refusal_bytes n s m q) (table_at t) (end d p) (end e q)) (own_is n r l p whole)
-        ∙ ap (λ (c : ℕ). lay_refusal d e (port_refusal n (domain_at r) (ledger_at l) p) c (table_at t) (end d p) (end e q)) (own_is n s m q far))
+    lay_is = rw (not_short, long domain_size s far, own_is n r l p whole, own_is n s m q far)
 
 -- ---- the table after a call
 
 -- a lay that answers 0 has room
-space_of : (t : List Slot) (a b : ℕ) → eqb (join_refusal t a b) 0 ≡ true → has_space t ≡ true
-unfolding join_refusal
-space_of t a b = go (taken t a || taken t b) (has_space t)
-  where
-    go : (x y : Bool) → eqb (cond x 25 (cond y 0 34)) 0 ≡ true → y ≡ true
-    go true y h = absurd (false≢true h)
-    go false true h = refl
-    go false false h = absurd (false≢true h)
-
 lay_space : (d e c k : ℕ) (t : List Slot) (a b : ℕ) → eqb (lay_refusal d e c k t a b) 0 ≡ true → has_space t ≡ true
-unfolding lay_refusal
-lay_space d e c k t a b = go (leb domain_limit d || leb domain_limit e) (eqb d e) (eqb c 0) refl (eqb k 0) refl
-  where
-    go : (x y u : Bool) → eqb c 0 ≡ u → (v : Bool) → eqb k 0 ≡ v → eqb (cond x 23 (cond y 24 (cond (not u) c (cond (not v) k (join_refusal t a b))))) 0 ≡ true → has_space t ≡ true
-    go true y u p v q h = absurd (false≢true h)
-    go false true u p v q h = absurd (false≢true h)
-    go false false false p v q h = absurd (false≢true (sym p ∙ h))
-    go false false true p false q h = absurd (false≢true (sym q ∙ h))
-    go false false true p true q h = space_of t a b h
+unfolding lay_refusal join_refusal
+lay_space d e c k t a b h = grind (arith, nat_tests)
 
 module _ (t : List ℕ) (space : table_size ≤ length t) where
   lay_table : (code a b : ℕ) → (eqb code 0 ≡ true → has_space (table_at t) ≡ true) →
       meant_lay (lay_did code t a b) ≡ meant code (cond (eqb code 0) (lowest_free (table_at t)) 0) (table_laid code (table_at t) a b)
-  lay_table code a b free = go (eqb code 0) refl
-    where
-      go : (c : Bool) → eqb code 0 ≡ c → meant_lay (lay_did code t a b) ≡ meant code (cond (eqb code 0) (lowest_free (table_at t)) 0) (table_laid code (table_at t) a b)
-      go false h = rw h
-      go true h =
-          rw (eqb-true code 0 h)
-          (ap (λ (u : List Slot). meant 0 (lowest_free (table_at t)) u)
-          (table_put t (lowest_free (table_at t)) a b space (subst (λ (k : ℕ). lowest_free (table_at t) < k) (table_length t) (ltb-true (lowest_free (table_at t)) (length (table_at t)) (free h)))))
+  lay_table code a b free = grind (arith, nat_tests, table_put, table_length, free)
 
   cut_table : (code e : ℕ) → meant_cut (cut_did code t e) ≡ meant code 0 (table_cut code (table_at t) e)
-  cut_table code e = ap (λ (u : List Slot). meant code 0 u) (go (eqb code 0))
-    where
-      go : (c : Bool) → table_at (cond c (cut_bytes t e) t) ≡ cond c (cut_at (table_at t) e) (table_at t)
-      go true = table_cut_lem t e space
-      go false = refl
+  cut_table code e = grind (arith, table_cut_lem)
 
   fall_table : (d p : ℕ) → table_at (fall_bytes t d p) ≡ table_fallen d p (table_at t)
   unfolding fall_bytes
-  fall_table d p = go (eqb p 0)
-    where
-      go : (c : Bool) → table_at (cond c t (cut_bytes t (end d p))) ≡ cond c (table_at t) (cut_at (table_at t) (end d p))
-      go true = refl
-      go false = table_cut_lem t (end d p) space
+  fall_table d p = grind (arith, table_cut_lem)
 
 -- ---- where a close's ledger change falls
 
@@ -124,52 +88,35 @@ place_some kind p value old h = ne_eqb (kind + place_code p) 0 (λ e. omega arit
 
 access_some : (a : Access) → eqb (encoded_access a).code 0 ≡ false
 unfolding encoded_access
-access_some (Read p) = place_some 0x100 p 0 0 (omega arith)
-access_some (Store p v) = place_some 0x110 p v 0 (omega arith)
-access_some (Or p v) = place_some 0x120 p v 0 (omega arith)
-access_some (And p v) = place_some 0x130 p v 0 (omega arith)
-access_some (Swap p v) = place_some 0x140 p v 0 (omega arith)
-access_some (Cas p old new) = place_some 0x150 p new old (omega arith)
+access_some a = grind (arith, place_some)
 
 fallen_is : (x : Next) (p : ℕ) → fallen_at (encoded_next x).code p ≡ fallen x p
 unfolding fallen encoded_next encoded_answer
-fallen_is (next.Access a) p = rw (access_some a)
-fallen_is (next.Answer a count) p = refl
+fallen_is x p = grind (arith, access_some)
 
 -- where no call is under way none closes
 free_closes : (o : Owner) (c : Call) → c.owner ≡ o → closing_port (or_idle c) ≡ closing_port c
 unfolding or_idle is_free
-free_closes owner.None c h = rw h
-free_closes owner.Bind c h = rw h
-free_closes owner.Close c h = rw h
-free_closes owner.Raise c h = rw h
-free_closes owner.Unmask c h = rw h
+free_closes o c h = grind arith
 
 closing_is : (r : List ℕ) → domain_size ≤ length r → closing_in r ≡ closing_port (domain_at r).call
 unfolding domain_at
-closing_is r h = rw (long domain_size r h) (sym (free_closes (call_at r).owner (call_at r) refl))
+closing_is r h = grind (arith, long, free_closes)
 
 -- ---- a fresh table
 
 zeros : table_at (replicate table_size 0) ≡ fresh
 zeros =
-    ext_get_or empty (table_at (replicate table_size 0)) fresh (table_length (replicate table_size 0) ∙ sym (length-replicate slot_count empty))
-    (λ j h. at j (subst (λ (k : ℕ). j < k) (table_length (replicate table_size 0)) h))
-  where
-    at : (j : ℕ) → j < slot_count → slot_of (table_at (replicate table_size 0)) j ≡ slot_of fresh j
-    at j h = slot_at (replicate table_size 0) j h ∙ zero_slot j h ∙ sym (get_or-replicate slot_count j empty empty h)
+    ext_get_or empty _ _ (table_length (replicate table_size 0) ∙ sym (length-replicate slot_count empty))
+    (λ j h. let k : j < slot_count = omega (arith, table_length) in slot_at (replicate table_size 0) j k ∙ zero_slot j k ∙ sym (get_or-replicate slot_count j empty empty k))
 
 -- ---- the claims
 
 cut_kept : (t : List ℕ) (code e : ℕ) → code ≢ 0 → (cut_did code t e).table ≡ t
-cut_kept t code e h = rw (ne_eqb code 0 h)
+cut_kept t code e h = grind (arith, nat_tests)
 
 lay_kept : (t : List ℕ) (code a b : ℕ) → (lay_did code t a b).result.code ≢ 0 → (lay_did code t a b).table ≡ t
-lay_kept t code a b h = go (eqb code 0) refl
-  where
-    go : (c : Bool) → eqb code 0 ≡ c → (lay_did code t a b).table ≡ t
-    go true k = absurd (h (rw k))
-    go false k = rw k
+lay_kept t code a b h = grind (arith, nat_tests)
 
 module _ (n : ℕ) where
   close_table : (t r l : List ℕ) (d p : ℕ) → table_size ≤ length t → domain_size ≤ length r →
@@ -192,12 +139,7 @@ module _ (n : ℕ) where
       ∙ ap (λ (k : ℕ). fallen (reply_of n (domain_at r) (ledger_at l) seen).outcome.next k) (closing_is r h)))
 
   lay_beyond : (t : List ℕ) (code a b : ℕ) → (eqb code 0 ≡ true → has_space (table_at t) ≡ true) → Beyond table_size t (lay_did code t a b).table
-  lay_beyond t code a b free = go (eqb code 0) refl
-    where
-      go : (c : Bool) → eqb code 0 ≡ c → Beyond table_size t (lay_did code t a b).table
-      go false h = rw h stays
-      go true h =
-          rw h (slot_beyond t (lowest_free (table_at t)) a b (subst (λ (k : ℕ). lowest_free (table_at t) < k) (table_length t) (ltb-true (lowest_free (table_at t)) (length (table_at t)) (free h))))
+  lay_beyond t code a b free = by_test (λ (x : LayDid). Beyond table_size t x.table) (eqb code 0) (λ h. slot_beyond t (lowest_free (table_at t)) a b (grind (arith, nat_tests, table_length, free h))) (λ h. stays)
 
   fall_beyond : (t : List ℕ) (d p : ℕ) → Beyond table_size t (fall_bytes t d p)
   unfolding fall_bytes

@@ -2,59 +2,24 @@
 -- Assumes nothing.
 use Prim.Native.Nat.{ℕ, zero, suc, ◌+◌, ◌*◌, ◌≤◌, ◌<◌}
 use mathlib.Core.Path.{◌≡◌, refl, sym, ap, ◌∙◌, subst}
-use mathlib.Core.Bool.{Bool, true, false, not, ◌&&◌, ◌||◌, and-true, and-false, or-true}
+use mathlib.Core.Bool.{Bool, true, false, cond}
 use mathlib.Core.List.{List}
 use native.Mathlib.Omega.{arith}
-use native.Mathlib.Nat.{le_of_suc-le-suc, not-suc-le-zero}
-use borrow.Author.Tests.{ltb-true, ltb-false}
+use native.Mathlib.Nat.{not-suc-le-zero}
 use lib.ListN.{length, get_or-eq_default}
-use lib.Dec.{eqb, ltb, leb}
+use lib.Dec.{ltb, leb}
+use Rattle.std.proofs.Common.{add-one}
+use Rattle.std.proofs.lemmas.Bool.Decides.{nat_tests}
+use Rattle.std.specs.Option.{MatchOption, is_some}
+use Rattle.std.specs.Prelude.{Option, Some, None}
 use Rattle.calls.proofs.Cases.{by_test}
 use Rattle.evtchn_fifo.proofs.NumberLaws.{length_put}
-use Rattle.evtchn_fifo.specs.Numbers.{number_in, put_number_in}
-use Rattle.cables.specs.Table.{Slot, slot, empty, slot_count, is_end, holds, has, other, slot_of, lowest}
+use Rattle.evtchn_fifo.specs.Numbers.{put_number_in}
+use Rattle.cables.specs.Table.{Slot, empty, slot_count, has, other, slot_of, lowest, lowest_with, taken, find}
 use Rattle.cables.proofs.Lowest.{lowest_is, lowest_none}
-use Rattle.cables.proofs.Tables.{has_empty}
-use Rattle.evtchn_cables.specs.TableBytes.{slot_in, put_slot, slots_from, table_at, cut_up_to, cut_slot_bytes, cut_bytes}
-
--- ---- one slot, by the two numbers that the code reads
-
-module _ (t : List ℕ) (i : ℕ) {one two : ℕ} (first : one ≡ number_in t (i * 8)) (second : two ≡ number_in t (i * 8 + 4)) where
-  slot_is : slot one two ≡ slot_in t i
-  unfolding slot_in
-  slot_is = ap (λ (x : ℕ). slot x two) first ∙ ap (λ (x : ℕ). slot (number_in t (i * 8)) x) second
-
-  pub has_first : (e : ℕ) {r : Bool} → eqb one e ≡ true → r ≡ (is_end one && is_end two) → r ≡ has (slot_in t i) e
-  unfolding has holds
-  has_first e h k = k ∙ sym (and-true (is_end one && is_end two)) ∙ ap (λ (b : Bool). is_end one && is_end two && (b || eqb two e)) (sym h) ∙ ap (λ s. has s e) slot_is
-
-  pub has_second : (e : ℕ) {r : Bool} → eqb two e ≡ true → r ≡ (is_end one && is_end two) → r ≡ has (slot_in t i) e
-  unfolding has holds
-  has_second e h k =
-      k ∙ sym (and-true (is_end one && is_end two)) ∙ ap (λ (b : Bool). is_end one && is_end two && b) (sym (or-true (eqb one e)) ∙ ap (λ (b : Bool). eqb one e || b) (sym h)) ∙ ap (λ s. has s e) slot_is
-
-  pub has_neither : (e : ℕ) → eqb one e ≡ false → eqb two e ≡ false → false ≡ has (slot_in t i) e
-  unfolding has holds
-  has_neither e h k =
-      sym (and-false (is_end one && is_end two)) ∙ ap (λ (b : Bool). is_end one && is_end two && b) (sym k ∙ ap (λ (b : Bool). b || eqb two e) (sym h)) ∙ ap (λ s. has s e) slot_is
-
-  pub free_is : {r : Bool} → r ≡ (is_end one && is_end two) → not r ≡ not (holds (slot_in t i))
-  unfolding holds
-  free_is k = ap not k ∙ ap (λ s. not (holds s)) slot_is
-
--- the other end: the second number if the first is the end, else the first
-module _ (t : List ℕ) (i e : ℕ) {one : ℕ} (first : one ≡ number_in t (i * 8)) where
-  pub other_second : {two : ℕ} → eqb one e ≡ true → two ≡ number_in t (i * 8 + 4) → two ≡ other (slot_in t i) e
-  unfolding other slot_in
-  other_second h k = k ∙ sym (rw (sym first, h))
-
-  pub other_first : eqb one e ≡ false → one ≡ other (slot_in t i) e
-  unfolding other slot_in
-  other_first h = first ∙ sym (rw (ap (λ (x : ℕ). eqb x e) (sym first) ∙ h))
-
-pub put_both : (t : List ℕ) (i a b : ℕ) {u v : List ℕ} → u ≡ put_number_in t (i * 8) a → v ≡ put_number_in u (i * 8 + 4) b → v ≡ put_slot t i a b
-unfolding put_slot
-put_both t i a b p q = q ∙ ap (λ l. put_number_in l (i * 8 + 4) b) p
+use Rattle.cables.proofs.Tables.{has_inside, has_taken_lem}
+use Rattle.evtchn_cables.specs.TableBytes.{slot_in, put_slot, slots_from, table_at, found_at, cut_up_to, cut_slot_bytes}
+use Rattle.evtchn_cables.specs.Encoded.{far_bytes, far_found}
 
 length_number : (t : List ℕ) (i v : ℕ) → length (put_number_in t i v) ≡ length t
 unfolding put_number_in
@@ -75,7 +40,7 @@ slots_at : (t : List ℕ) (i k j : ℕ) → j < k → slot_of (slots_from t i k)
 unfolding slots_from
 slots_at t i zero j h = absurd (not-suc-le-zero h)
 slots_at t i (suc k) zero h = ap (slot_in t) (omega arith)
-slots_at t i (suc k) (suc j) h = slots_at t (suc i) k j (le_of_suc-le-suc h) ∙ ap (slot_in t) (omega arith)
+slots_at t i (suc k) (suc j) h = slots_at t (suc i) k j (omega arith) ∙ ap (slot_in t) (omega arith)
 
 pub table_length : (t : List ℕ) → length (table_at t) ≡ slot_count
 table_length t = slots_length t 0 slot_count
@@ -86,52 +51,34 @@ slot_at t i h = slots_at t 0 slot_count i h ∙ ap (slot_in t) (omega arith)
 pub slot_beyond : (t : List ℕ) (i : ℕ) → slot_count ≤ i → slot_of (table_at t) i ≡ empty
 slot_beyond t i h = get_or-eq_default (table_at t) empty (subst (λ (k : ℕ). k ≤ i) (sym (table_length t)) h)
 
--- ---- a walk over the slots
+-- ---- the lowest slot that passes a test, found by a walk over the slots
 
-pub none_more : (f : Slot → Bool) (t : List ℕ) (i : ℕ) → ((j : ℕ) → j < i → f (slot_in t j) ≡ false) → f (slot_in t i) ≡ false → (j : ℕ) → j < i + 1 → f (slot_in t j) ≡ false
-none_more f t i below here j h = go (ltb j i) refl
-  where
-    go : (b : Bool) → ltb j i ≡ b → f (slot_in t j) ≡ false
-    go true k = below j (ltb-true j i k)
-    go false k = subst (λ (x : ℕ). f (slot_in t x) ≡ false) (omega (arith, ltb-false j i k)) here
+pub lowest_found : (f : Slot → Bool) (t : List ℕ) (r : Option ℕ) →
+    MatchOption r ((k : ℕ) → 0 ≤ k → k < slot_count → f (slot_in t k) ≡ false)
+    (λ i. (0 ≤ i) × (i < slot_count) × (f (slot_in t i) ≡ true) × ((k : ℕ) → 0 ≤ k → k < i → f (slot_in t k) ≡ false)) →
+    r ≡ found_at (lowest f (table_at t))
+lowest_found f t None none = sym (rw (lowest_none f (table_at t) (λ j h. grind (arith, table_length, slot_at, none j)), table_length t))
+lowest_found f t (Some i) found =
+    let here : lowest f (table_at t) ≡ i = lowest_is f (table_at t) i (omega (arith, table_length, found.1)) (grind (arith, slot_at, found.1, found.2)) (λ j h. grind (arith, slot_at, found.1, found.3 j)) in
+    grind (arith, nat_tests, found.1)
 
-module _ (f : Slot → Bool) (t : List ℕ) (i : ℕ) (below : (j : ℕ) → j < i → f (slot_in t j) ≡ false) where
-  at_below : i ≤ slot_count → (j : ℕ) → j < i → f (slot_of (table_at t) j) ≡ false
-  at_below h j k = ap f (slot_at t j (omega arith)) ∙ below j k
+pub found_some : (f : Slot → Bool) (t : List ℕ) → is_some (found_at (lowest f (table_at t))) ≡ ltb (lowest f (table_at t)) (length (table_at t))
+found_some f t = grind (arith, nat_tests, table_length)
 
-  pub walk_finds : i < slot_count → f (slot_in t i) ≡ true → i ≡ lowest f (table_at t)
-  walk_finds h e =
-      sym (lowest_is f (table_at t) i (subst (λ (k : ℕ). i < k) (sym (table_length t)) h) (ap f (slot_at t i h) ∙ e) (at_below (omega arith)))
-
-  pub walk_ends : i ≡ slot_count → slot_count ≡ lowest f (table_at t)
-  walk_ends e =
-      sym (table_length t) ∙ sym (lowest_none f (table_at t) (λ j h. at_below (omega arith) j (subst (λ (k : ℕ). j < k) (table_length t ∙ sym e) h)))
+-- the far end that a send names: of the hinted slot if it has the end, else of the lowest that has it
+pub send_is : (t : List ℕ) (hint e : ℕ) →
+    far_found (cond (taken (table_at t) e) 0 26) t hint e
+    ≡ cond (has (slot_of (table_at t) hint) e) (far_bytes 0 (other (slot_in t hint) e) hint)
+    (cond (taken (table_at t) e) (far_bytes 0 (other (slot_in t (lowest_with (table_at t) e)) e) (lowest_with (table_at t) e)) (far_bytes 26 0 0))
+unfolding find
+send_is t hint e = grind (arith, nat_tests, table_length, slot_at, has_inside, has_taken_lem)
 
 -- ---- a cut, slot by slot
 
-pub cut_more : (t : List ℕ) (k e : ℕ) {u v : List ℕ} → u ≡ cut_up_to k t e → v ≡ cut_slot_bytes u k e → v ≡ cut_up_to (k + 1) t e
+pub cut_none : (t : List ℕ) (e : ℕ) → cut_up_to 0 t e ≡ t
 unfolding cut_up_to
-cut_more t k e p q = q ∙ ap (λ l. cut_slot_bytes l k e) p ∙ ap (λ (j : ℕ). cut_up_to j t e) (let z : suc k ≡ k + 1 = omega arith in z)
+cut_none t e = refl
 
-pub cut_length : (t : List ℕ) (i e : ℕ) {u : List ℕ} {size : ℕ} → length t ≡ size → u ≡ cut_slot_bytes t i e → length u ≡ size
-unfolding cut_slot_bytes
-cut_length t i e h p = ap length p ∙ by_test (λ (u : List ℕ). length u ≡ length t) (has (slot_in t i) e) (λ k. length_slot t i 0 0) (λ k. refl) ∙ h
-
-pub cut_all : (t : List ℕ) (e : ℕ) {k : ℕ} {u : List ℕ} → k ≡ slot_count → u ≡ cut_up_to k t e → u ≡ cut_bytes t e
-cut_all t e h p = p ∙ ap (λ (j : ℕ). cut_up_to j t e) h
-
-pub cut_slot_made : (t : List ℕ) (i e : ℕ) {r : Bool} {u : List ℕ} → r ≡ has (slot_in t i) e → r ≡ true → u ≡ put_slot t i 0 0 → u ≡ cut_slot_bytes t i e
-unfolding cut_slot_bytes
-cut_slot_made t i e p h q = q ∙ sym (rw (sym p ∙ h))
-
-pub cut_slot_kept : (t : List ℕ) (i e : ℕ) {r : Bool} → r ≡ has (slot_in t i) e → r ≡ false → t ≡ cut_slot_bytes t i e
-unfolding cut_slot_bytes
-cut_slot_kept t i e p h = sym (rw (sym p ∙ h))
-
--- ---- a hint
-
-pub hint_inside : (t : List ℕ) (i e : ℕ) {r : Bool} → ltb i slot_count ≡ true → r ≡ has (slot_in t i) e → r ≡ has (slot_of (table_at t) i) e
-hint_inside t i e h k = k ∙ ap (λ s. has s e) (sym (slot_at t i (ltb-true i slot_count h)))
-
-pub hint_beyond : (t : List ℕ) (i e : ℕ) → ltb i slot_count ≡ false → false ≡ has (slot_of (table_at t) i) e
-hint_beyond t i e h = sym (ap (λ s. has s e) (slot_beyond t i (ltb-false i slot_count h)) ∙ has_empty e)
+pub cut_more : (k : ℕ) (t : List ℕ) (e : ℕ) → cut_up_to (k + 1) t e ≡ cut_slot_bytes (cut_up_to k t e) k e
+unfolding cut_up_to
+cut_more k t e = rw add-one refl

@@ -1,7 +1,7 @@
 -- The calls on bytes: t is the table, r and l a domain's record and ledger, n the number of link bits. 23 and 24 come before 64, since
 -- a domain that can't be has no record to lend; then 64, and the rest. A refusal leaves every byte.
 -- Assumes nothing.
-use Rattle.std.specs.Prelude.{ℕ, Bool, cond, ◌||◌, List, length, eqb, ltb, leb}
+use Rattle.std.specs.Prelude.{ℕ, Bool, cond, ◌||◌, List, length, eqb, ltb, leb, Result, Ok, Err}
 use Rattle.evtchn_fifo.specs.Numbers.{narrow}
 use Rattle.evtchn_fifo.specs.Encoded.{Carried, too_short}
 use Rattle.evtchn_fifo.specs.Ledger.{entry_in}
@@ -9,11 +9,31 @@ use Rattle.evtchn_fifo.specs.DomainRecord.{domain_size, given_in, closing_in}
 use Rattle.evtchn_fifo.specs.Hypervisor.{close_bytes, reply_bytes}
 use Rattle.evtchn_cables.specs.declared.joining.Laid.{Laid}
 use Rattle.evtchn_cables.specs.declared.joining.Far.{Far}
+use Rattle.evtchn_cables.specs.declared.refusals.Refusal.{Refusal}
+use Rattle.evtchn_cables.specs.declared.refusals.Refusal.TheVariants.{BadPort, NotBound, NotGiven, NoEntry, BadDomain, SameDomain, Taken, NoCable, Full, TooShort}
 use Rattle.cables.specs.Table.{domain_limit, end, domain_of, port_of, find, lowest_free, across}
 use Rattle.cables.specs.Rules.{refusal_by, lay_refusal, near_refusal, fallen_at}
 use Rattle.evtchn_cables.specs.TableBytes.{table_size, table_at, put_slot, cut_bytes}
 
 -- ---- refusals
+
+-- a refusal's number in the C header
+abbrev pub refusal_number : Refusal → ℕ
+refusal_number BadPort = 3
+refusal_number NotBound = 4
+refusal_number NotGiven = 10
+refusal_number NoEntry = 14
+refusal_number BadDomain = 23
+refusal_number SameDomain = 24
+refusal_number Taken = 25
+refusal_number NoCable = 26
+refusal_number Full = 34
+refusal_number TooShort = 64
+
+-- 0 where nothing is refused
+abbrev pub result_code : {T : Type 0} → Result T Refusal → ℕ
+result_code (Ok x) = 0
+result_code (Err e) = refusal_number e
 
 unfoldable pub port_refusal_bytes : ℕ → List ℕ → List ℕ → ℕ → ℕ
 port_refusal_bytes n r l p = refusal_by n (given_in r) p (entry_in l p)
@@ -40,6 +60,11 @@ laid_bytes x t = record { result = x; table = t }
 
 abbrev pub refused_lay : ℕ → Laid
 refused_lay code = record { code = code; slot = 0 }
+
+-- 0 with the new cable's slot, or a refusal's number
+abbrev pub laid : Result ℕ Refusal → Laid
+laid (Ok i) = record { code = 0; slot = i }
+laid (Err e) = refused_lay (refusal_number e)
 
 abbrev pub lay_did : ℕ → List ℕ → ℕ → ℕ → LayDid
 lay_did code t a b =
@@ -71,9 +96,13 @@ cut_did code t e = was_cut code (cond (eqb code 0) (cut_bytes t e) t)
 abbrev pub cut_call_bytes : ℕ → List ℕ → List ℕ → List ℕ → ℕ → ℕ → CutDid
 cut_call_bytes n t r l d p = cut_did (near_code n t r l d (narrow p)) t (end d (narrow p))
 
--- 0 with the far end f and the slot, or a refusal
+-- 0 with the far end f and the slot, or a refusal's number
 abbrev pub far_bytes : ℕ → ℕ → ℕ → Far
 far_bytes code f i = record { code = code; domain = domain_of f; port = port_of f; slot = i }
+
+abbrev pub sent : Result Far Refusal → Far
+sent (Ok x) = x
+sent (Err e) = far_bytes (refusal_number e) 0 0
 
 abbrev pub far_found : ℕ → List ℕ → ℕ → ℕ → Far
 far_found code t hint e =

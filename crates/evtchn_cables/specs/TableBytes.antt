@@ -1,6 +1,6 @@
 -- The table in 8,192 bytes: a slot is two numbers of four bytes, the lowest byte first. Any bytes are a table; beyond them is 0.
 -- Assumes nothing.
-use Rattle.std.specs.Prelude.{ℕ, zero, suc, ◌+◌, ◌*◌, cond, List, [], ◌∷◌}
+use Rattle.std.specs.Prelude.{ℕ, zero, suc, ◌+◌, ◌*◌, cond, List, [], ◌∷◌, ltb, Option, Some, None}
 use Rattle.evtchn_fifo.specs.Numbers.{number_in, put_number_in}
 use Rattle.cables.specs.Table.{Slot, slot, slot_count, has}
 
@@ -21,6 +21,10 @@ slots_from t i (suc k) = slot_in t i ∷ slots_from t (suc i) k
 -- the table that the bytes are
 abbrev pub table_at : List ℕ → List Slot
 table_at t = slots_from t 0 slot_count
+
+-- what a search for the lowest slot comes to: none where the number is no slot's
+abbrev pub found_at : ℕ → Option ℕ
+found_at i = cond (ltb i slot_count) (Some i) None
 
 -- a slot that has the end becomes free
 unfoldable pub cut_slot_bytes : List ℕ → ℕ → ℕ → List ℕ

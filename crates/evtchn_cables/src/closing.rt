@@ -10,20 +10,18 @@ use evtchn_fifo::encoded::PackedNext;
 use evtchn_fifo::hypervisor::{evtchn_fifo_bytes_close, evtchn_fifo_bytes_reply};
 use evtchn_fifo::{domain_record, encoded, numbers};
 
-// The port's cable is cut where its close answered 0.
-fn cut_fallen(table: &mut [u8], number: u64, port: u32, code: u64)
-    ensures { table.new ≡ fall_bytes table.old number (fallen_at code port) }
+// The port's cable is cut where its close answered 0. Port 0 is none and no Option: so `fallen` of specs/Rules.antt has it, of which
+// `cable_calls` speaks.
+#[tactic(auto, unfolding(evtchn_fifo::specs::Encoded::unpacked, crate::specs::Encoded::fall_bytes))]
+fn cut_fallen(table: &mut [u8], number: u64, port: u32, next: PackedNext)
+    ensures { table.new ≡ fall_bytes table.old number (fallen_at (unpacked next).code port) }
 {
-    let fell = code == 0;
-    if fell {
-        let some = port != 0;
-        if some {
-            let end = ends::end_of(number, port);
-            table::cut_end(table, end);
-        }
+    if next.first % 0x1_0000_0000 == 0 && port != 0 {
+        table::cut_end(table, ends::end_of(number, port));
     }
 }
 
+#[tactic(auto, unfolding(crate::specs::Encoded::close_cables))]
 pub fn evtchn_cables_bytes_close(
     table: &mut [u8],
     domain: &mut [u8],
@@ -33,17 +31,16 @@ pub fn evtchn_cables_bytes_close(
 ) -> PackedNext
     ensures { with_table (carried (unpacked result) domain.new ledger.new) table.new ≡ close_cables link_bits table.old domain.old ledger.old number port }
 {
-    let short = table.len() < table::TABLE_SIZE;
-    if short {
+    if table.len() < table::TABLE_SIZE {
         return encoded::too_short();
     }
     let next = evtchn_fifo_bytes_close(domain, ledger, port);
-    let port_number = numbers::narrowed(port);
-    cut_fallen(table, number, port_number, next.first % 0x1_0000_0000);
+    cut_fallen(table, number, numbers::narrowed(port), next);
     next
 }
 
 // Only a close's reply looks at the table: any other costs one test more than without cables.
+#[tactic(auto, unfolding(crate::specs::Encoded::reply_cables, crate::specs::Encoded::fall_bytes))]
 pub fn evtchn_cables_bytes_reply(
     table: &mut [u8],
     domain: &mut [u8],
@@ -53,15 +50,13 @@ pub fn evtchn_cables_bytes_reply(
 ) -> PackedNext
     ensures { with_table (carried (unpacked result) domain.new ledger.new) table.new ≡ reply_cables link_bits table.old domain.old ledger.old number seen }
 {
-    let short = table.len() < table::TABLE_SIZE;
-    if short {
+    if table.len() < table::TABLE_SIZE {
         return encoded::too_short();
     }
     let closing = domain_record::closing_in(domain);
     let next = evtchn_fifo_bytes_reply(domain, ledger, seen);
-    let close = closing != 0;
-    if close {
-        cut_fallen(table, number, closing, next.first % 0x1_0000_0000);
+    if closing != 0 {
+        cut_fallen(table, number, closing, next);
     }
     next
 }
