@@ -12,7 +12,7 @@ use Rattle.machine.specs.declared.types.Side.TheVariants.{Hypervisor}
 use Rattle.access_log.specs.declared.line.LoggedCall.TheVariants.{Bind}
 use Rattle.access_log.specs.declared.line.Line.{Line}
 use Rattle.access_log.specs.declared.line.Line.TheVariants as line
-use Rattle.access_log.specs.declared.read.Found.TheVariants as found
+use Rattle.std.specs.Prelude.{None, Some}
 use Rattle.access_log.specs.Line.{ascii, tab, newline, dash, decimal, side_of, row, call_bytes, bytes_of, LegalCall, Legal}
 use Rattle.access_log.specs.Text.{same}
 use Rattle.access_log.specs.Read.{field, after, value, guess_from, guess, read_line}
@@ -26,7 +26,7 @@ written_reads : WrittenReads
 unfolding read_line
 written_reads l h = simp (line_back l h, same_self)
 
-found_by : (b : Bool) (s : List ℕ) (g l : Line) → same (bytes_of g) s ≡ b → Legal g → cond b (found.Line g) found.NotOfTheForm ≡ found.Line l →
+found_by : (b : Bool) (s : List ℕ) (g l : Line) → same (bytes_of g) s ≡ b → Legal g → cond b (Some g) None ≡ Some l →
     Legal l × (bytes_of l ≡ s)
 found_by true s g l e h p =
     let is : g ≡ l = cc in
@@ -38,7 +38,7 @@ unfolding read_line
 read_writes s l p = found_by (same (bytes_of (guess s)) s) s (guess s) l refl (guess_legal s) p
 
 others_by : (b : Bool) (s : List ℕ) (g : Line) → same (bytes_of g) s ≡ b → Legal g → ((l : Line) → Legal l → bytes_of l ≢ s) →
-    cond b (found.Line g) found.NotOfTheForm ≡ found.NotOfTheForm
+    cond b (Some g) None ≡ None
 others_by true s g e h f = absurd (f g h (same_eq (bytes_of g) s e))
 others_by false s g e h f = refl
 
@@ -58,7 +58,7 @@ unfolding row side_of
 port_text p text e = append_cancel_right p text _ (ap (drop 12) e)
 
 decimal_by : (b : Bool) (text : List ℕ) (p : ℕ) (l : Line) → same (bytes_of (line.Call (Bind (port_at p)))) (bind_line text) ≡ b → Legal (line.Call (Bind (port_at p))) →
-    cond b (found.Line (line.Call (Bind (port_at p)))) found.NotOfTheForm ≡ found.Line l → IsDecimal text
+    cond b (Some (line.Call (Bind (port_at p)))) None ≡ Some l → IsDecimal text
 unfolding bytes_of call_bytes Legal LegalCall
 decimal_by true text p l e h q = record { number = p; below = h; digits = port_text (decimal p) text (same_eq _ (bind_line text) e) }
 decimal_by false text p l e h q = absurd (let z : ◌≡◌ {A = ℕ} 0 1 = cc in omega arith)
@@ -68,7 +68,7 @@ unfolding read_line
 decimal_reads text l e =
     let s = bind_line text in
     decimal_by _ text _ l refl (subst Legal (bind_guess text) (guess_legal s))
-    (subst (λ (g : Line). cond (same (bytes_of g) s) (found.Line g) found.NotOfTheForm ≡ found.Line l) (bind_guess text) e)
+    (subst (λ (g : Line). cond (same (bytes_of g) s) (Some g) None ≡ Some l) (bind_guess text) e)
 
 pub agree : Agree
 agree = record {

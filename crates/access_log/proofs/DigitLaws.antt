@@ -1,16 +1,20 @@
--- Digits: one more of them, and how many there are.
+-- Digits: how many there are, and how code finds each.
 -- Assumes nothing.
 use mathlib.Core.Path.{◌≡◌, refl, ◌∙◌}
 use mathlib.Core.Bool.{Bool, true, false, cond}
-use mathlib.Core.List.{[], ◌∷◌, ◌++◌}
-use Prim.Native.Nat.{ℕ, zero, suc, ◌+◌, ◌-◌, ◌≤◌, ◌<◌, ◌/◌, ◌%◌}
+use mathlib.Core.List.{List, [], ◌∷◌}
+use Prim.Native.Nat.{ℕ, zero, suc, ◌+◌, ◌-◌, ◌≤◌, ◌<◌, ◌/◌, ◌%◌, ◌^◌, zero-le}
 use native.Mathlib.Numerals.{add-one, sub-one}
 use native.Mathlib.Omega.{arith}
-use lib.ListN.{length, length-append}
-use lib.Dec.{ltb}
+use lib.ListN.{length, length-append, get_or}
+use lib.Dec.{ltb, eqb, eqb→eq}
 use borrow.Author.Tests.{lt-ltb, le-ltb}
-use Rattle.access_log.specs.Line.{digit, digits, places}
-use Rattle.access_log.specs.Text.{Text, with_byte, with_bytes}
+use native.Mathlib.Nat.{pow-suc}
+use Rattle.std.proofs.Math.Nat.{div-div-eq-div-mul, div-one}
+use Rattle.access_log.specs.Line.{digit, digits, places, hex8}
+use Rattle.access_log.specs.Text.{Text, with_bytes}
+use Rattle.word.proofs.Span.{span, within}
+use borrow.Rule.Slice.PartMut.{mid_of}
 use Rattle.access_log.proofs.TextLaws.{with_append}
 
 pub length_digits : (base count n : ℕ) → length (digits base count n) ≡ count
@@ -19,17 +23,6 @@ length_digits base zero n = refl
 length_digits base (suc count) n =
     length-append (digits base count (n / base)) (digit (n % base) ∷ [])
     ∙ simp (length_digits base count (n / base)) (add-one count)
-
-digits_more : (base count n : ℕ) → (count ≡ 0 → ⊥) →
-    digits base count n ≡ digits base (count - 1) (n / base) ++ digit (n % base) ∷ []
-unfolding digits
-digits_more base zero n h = absurd (h refl)
-digits_more base (suc count) n h = simp sub-one
-
-pub with_digits_more : (t : Text) (base count n : ℕ) → (count ≡ 0 → ⊥) →
-    with_byte (with_bytes t (digits base (count - 1) (n / base))) (digit (n % base)) ≡ with_bytes t (digits base count n)
-unfolding with_bytes
-with_digits_more t base count n h = rw (digits_more base count n h, with_append) refl
 
 pub places_more : (most n : ℕ) → (most ≡ 0 → ⊥) → 10 ≤ n → places most n ≡ places (most - 1) (n / 10) + 1
 unfolding places
@@ -50,15 +43,51 @@ unfolding places
 places_le zero n = omega arith
 places_le (suc most) n = by_test (ltb n 10) (places most (n / 10)) most (places_le most (n / 10))
 
--- ---- eight hex digits, four by four
+-- ---- eight hex digits
 
-pub four_put : (n : ℕ) (start a b c done : Text) (w x y z : ℕ) →
-    w ≡ digit (n / 16 / 16 / 16 % 16) → x ≡ digit (n / 16 / 16 % 16) → y ≡ digit (n / 16 % 16) → z ≡ digit (n % 16) →
-    a ≡ with_byte start w → b ≡ with_byte a x → c ≡ with_byte b y → done ≡ with_byte c z → done ≡ with_bytes start (digits 16 4 n)
-unfolding digits with_bytes
-four_put n start a b c done w x y z h i j k l m o p = simp (p, o, m, l, h, i, j, k)
+pub hex_digits : (w : ℕ) →
+    digit (w / 2 ^ 28 % 16) ∷ digit (w / 2 ^ 24 % 16) ∷ digit (w / 2 ^ 20 % 16) ∷ digit (w / 2 ^ 16 % 16)
+    ∷ digit (w / 2 ^ 12 % 16) ∷ digit (w / 2 ^ 8 % 16) ∷ digit (w / 2 ^ 4 % 16) ∷ digit (w / 2 ^ 0 % 16) ∷ [] ≡ hex8 w
+unfolding hex8 digits
+hex_digits w = simp (div-div-eq-div-mul, div-one)
 
-pub eight_put : (n : ℕ) (start half done : Text) → half ≡ with_bytes start (digits 16 4 (n / 16 / 16 / 16 / 16)) → done ≡ with_bytes half (digits 16 4 n) →
-    done ≡ with_bytes start (digits 16 8 n)
-unfolding digits with_bytes
-eight_put n start half done e f = simp (f, e)
+-- ---- decimals, the highest digit first
+
+-- the powers of ten that a word holds, the highest first
+abbrev tens : List ℕ
+tens = 1000000000 ∷ 100000000 ∷ 10000000 ∷ 1000000 ∷ 100000 ∷ 10000 ∷ 1000 ∷ 100 ∷ 10 ∷ 1 ∷ []
+
+-- the last k of them
+abbrev pub last_tens : ℕ → List ℕ
+last_tens k = mid_of (10 - k) (10 - (10 - k)) tens
+
+ten_right : ℕ → ℕ → Bool
+ten_right k i = eqb (get_or (last_tens k) i 0) (10 ^ (k - (i + 1)))
+
+tens_right : ℕ → Bool
+unfolding ten_right
+tens_right k = span (ten_right k) 0 k
+
+ten_at : (k i : ℕ) → k ≤ 10 → i < k → get_or (last_tens k) i 0 ≡ 10 ^ (k - (i + 1))
+unfolding tens_right ten_right
+ten_at k i h l = eqb→eq _ _ (within (ten_right k) 0 k (within tens_right 0 11 tt k zero-le (omega arith)) i zero-le (omega arith))
+
+length_right : ℕ → Bool
+length_right k = eqb (length (last_tens k)) k
+
+pub length_tens : (k : ℕ) → k ≤ 10 → length (last_tens k) ≡ k
+unfolding length_right
+length_tens k h = eqb→eq _ _ (within length_right 0 11 tt k zero-le (omega arith))
+
+fewer : (n k i : ℕ) → i < k → n / 10 ^ (k - i) ≡ n / 10 ^ (k - suc i) / 10
+fewer n k i l = let e : k - i ≡ suc (k - suc i) = omega arith in rw (e, pow-suc, div-div-eq-div-mul) refl
+
+-- one more digit, by the next power
+pub digits_next : (t : Text) (n k i : ℕ) → k ≤ 10 → i < k →
+    with_bytes (with_bytes t (digits 10 i (n / 10 ^ (k - i)))) (digit (n / get_or (last_tens k) i 0 % 10) ∷ []) ≡ with_bytes t (digits 10 (i + 1) (n / 10 ^ (k - (i + 1))))
+unfolding digits
+digits_next t n k i h l =
+    rw (ten_at k i h l, add-one) (rw (← with_append, fewer n k i l) refl)
+
+pub digits_all : (n k : ℕ) → digits 10 k (n / 10 ^ (k - k)) ≡ digits 10 k n
+digits_all n k = let e : k - k ≡ 0 = omega arith in rw (e, div-one) refl

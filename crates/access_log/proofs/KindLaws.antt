@@ -1,7 +1,7 @@
 -- What a text would be is told by its first two fields.
 -- Assumes nothing.
 use native.Mathlib.Omega.{arith}
-use mathlib.Core.Path.{◌≡◌, refl, ◌∙◌, sym}
+use mathlib.Core.Path.{◌≡◌, refl}
 use mathlib.Core.Bool.{Bool, true, false, cond}
 use mathlib.Core.List.{List}
 use Prim.Native.Nat.{ℕ}
@@ -42,7 +42,7 @@ kind_by false true c answer call access s e f = e
 kind_by false false true answer call access s e f = refl
 kind_by false false false answer call access s e f = f
 
-kind_told : (s : List ℕ) →
+pub kind_told : (s : List ℕ) →
     kind_of (guess s)
     ≡ cond (same (field s) (ascii "accesses")) kind.Header
     (cond (same (field (after s)) (ascii "answer")) kind.Answer
@@ -54,22 +54,6 @@ kind_told s =
     (answer_kind (carries_port (value 10 (field (after (after s))))) _ _ _)
     (access_kind (same (field (after s)) (ascii "read")) (same (field (after s)) (ascii "store")) (same (field (after s)) (ascii "or"))
     (same (field (after s)) (ascii "and")) (same (field (after s)) (ascii "swap")) _ _ _ _ _)
-
--- the tests in their order, as code makes them
-module _ (s f : List ℕ) (h : Bool) (at_f : f ≡ field s) (at-h : h ≡ same f (ascii "accesses")) where
-  pub header_told : h ≡ true → kind.Header ≡ kind_of (guess s)
-  header_told t = sym (kind_told s ∙ simp (← at_f, ← at-h, t))
-
-  module _ (not-header : h ≡ false) (r g : List ℕ) (a : Bool) (at-r : r ≡ after s) (at_g : g ≡ field r) (at_a : a ≡ same g (ascii "answer")) where
-    pub answer_told : a ≡ true → kind.Answer ≡ kind_of (guess s)
-    answer_told t = sym (kind_told s ∙ simp (← at_f, ← at-h, not-header, ← at-r, ← at_g, ← at_a, t))
-
-    module _ (not_answer : a ≡ false) (c : Bool) (at_c : c ≡ same g (ascii "call")) where
-      pub call_kind_told : c ≡ true → kind.Call ≡ kind_of (guess s)
-      call_kind_told t = sym (kind_told s ∙ simp (← at_f, ← at-h, not-header, ← at-r, ← at_g, ← at_a, not_answer, ← at_c, t))
-
-      pub access_told : c ≡ false → (x : Side) → x ≡ guess_side f → kind.Access x ≡ kind_of (guess s)
-      access_told t x e = sym (kind_told s ∙ simp (← at_f, ← at-h, not-header, ← at-r, ← at_g, ← at_a, not_answer, ← at_c, t, e))
 
 -- a text that would be a call is that call
 call_by : (a b c : Bool) (answer : Line) (call : LoggedCall) (access : Line) (s : Side) → kind_of answer ≡ kind.Answer → kind_of access ≡ kind.Access s →

@@ -2,7 +2,6 @@ pub mod TextLaws
 pub mod DigitLaws
 pub mod LengthLaws
 pub mod ScanLaws
-pub mod ChoiceLaws
 pub mod FieldLaws
 pub mod NumberLaws
 pub mod GuessLaws

@@ -1,6 +1,6 @@
 -- The line of an event; neither the count nor the call under way stands in the log.
 -- Assumes nothing.
-use Rattle.std.specs.Prelude.{ℕ, cond}
+use Rattle.std.specs.Prelude.{ℕ, cond, Option, None, Some}
 use Rattle.word.specs.Word.{port_at}
 use Rattle.calls.specs.declared.types.Access.{Access}
 use Rattle.calls.specs.declared.types.Access.TheVariants.{Read, Store, Or, And, Swap, Cas}
@@ -13,8 +13,6 @@ use Rattle.machine.specs.declared.types.Event.{Event}
 use Rattle.machine.specs.declared.types.Event.TheVariants.{Nothing, HypervisorAccess, GuestAccess, ClearAccess, MaskAccess, HypervisorAnswer, GuestAnswer}
 use Rattle.access_log.specs.declared.line.Line.{Line}
 use Rattle.access_log.specs.declared.line.Line.TheVariants as line
-use Rattle.access_log.specs.declared.event.Logged.{Logged}
-use Rattle.access_log.specs.declared.event.Logged.TheVariants as logged
 use Rattle.access_log.specs.Line.{carries_port}
 
 -- the word that a line says was seen: none of a store
@@ -37,11 +35,12 @@ code_line side code =
 unfoldable pub answer_line : Side → Answer → Line
 answer_line side a = code_line side (code_of a)
 
-unfoldable pub line_of : Event → Logged
-line_of Nothing = logged.None
-line_of (HypervisorAccess c a seen) = logged.Line (access_line side.Hypervisor a seen)
-line_of (GuestAccess c a seen) = logged.Line (access_line side.Guest a seen)
-line_of (ClearAccess c a seen) = logged.Line (access_line side.Guest a seen)
-line_of (MaskAccess a seen) = logged.Line (access_line side.Guest a seen)
-line_of (HypervisorAnswer a count) = logged.Line (answer_line side.Hypervisor a)
-line_of (GuestAnswer a count) = logged.Line (answer_line side.Guest a)
+-- no line of no event
+unfoldable pub line_of : Event → Option Line
+line_of Nothing = None
+line_of (HypervisorAccess c a seen) = Some (access_line side.Hypervisor a seen)
+line_of (GuestAccess c a seen) = Some (access_line side.Guest a seen)
+line_of (ClearAccess c a seen) = Some (access_line side.Guest a seen)
+line_of (MaskAccess a seen) = Some (access_line side.Guest a seen)
+line_of (HypervisorAnswer a count) = Some (answer_line side.Hypervisor a)
+line_of (GuestAnswer a count) = Some (answer_line side.Guest a)

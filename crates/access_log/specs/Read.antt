@@ -1,7 +1,7 @@
 -- The reader of a line: it guesses a line from the fields and takes it exactly if the line's bytes are the text. So the guess
 -- need be right on legal lines only, and what is of the form is decided by `bytes_of` alone.
 -- Assumes nothing.
-use Rattle.std.specs.Prelude.{ℕ, ◌+◌, ◌*◌, ◌/◌, ◌%◌, ◌^◌, cond, List, [], ◌∷◌, drop, get_or, ltb, eqb}
+use Rattle.std.specs.Prelude.{ℕ, ◌+◌, ◌*◌, ◌/◌, ◌%◌, ◌^◌, cond, List, [], ◌∷◌, drop, get_or, ltb, eqb, Option, None, Some}
 use Prim.Native.Char.{code}
 use Rattle.word.specs.Word.{port_at, queue_at}
 use Rattle.word.specs.declared.Priority.{Priority}
@@ -16,8 +16,6 @@ use Rattle.access_log.specs.declared.line.Line.{Line}
 use Rattle.access_log.specs.declared.line.Line.TheVariants as line
 use Rattle.access_log.specs.declared.read.Kind.{Kind}
 use Rattle.access_log.specs.declared.read.Kind.TheVariants as kind
-use Rattle.access_log.specs.declared.read.Found.{Found}
-use Rattle.access_log.specs.declared.read.Found.TheVariants as found
 use Rattle.access_log.specs.Line.{ascii, carries_port, bytes_of}
 use Rattle.access_log.specs.Text.{same}
 
@@ -112,5 +110,5 @@ call_in s =
 
 -- ---- the reader
 
-unfoldable pub read_line : List ℕ → Found
-read_line s = cond (same (bytes_of (guess s)) s) (found.Line (guess s)) found.NotOfTheForm
+unfoldable pub read_line : List ℕ → Option Line
+read_line s = cond (same (bytes_of (guess s)) s) (Some (guess s)) None

@@ -1,8 +1,8 @@
 -- A text built in place, by appending, and what becomes of a buffer that a line is written to.
 -- Assumes nothing.
-use Rattle.std.specs.Prelude.{ℕ, ◌+◌, Bool, true, false, cond, List, [], ◌∷◌, ◌++◌, length, drop, set, ltb, eqb}
-use Rattle.access_log.specs.declared.line.Written.{Written}
-use Rattle.access_log.specs.declared.line.Written.TheVariants.{Bytes, Short}
+use Rattle.std.specs.Prelude.{ℕ, ◌≡◌, ◌+◌, Bool, true, false, cond, List, [], ◌∷◌, ◌++◌, length, drop, set, ltb, eqb, Result, Ok, Err}
+use Rattle.access_log.specs.declared.text.Writer.{Writer}
+use Rattle.access_log.specs.declared.line.TooShort.{TooShort}
 
 -- a buffer whose first len bytes are the text
 pub record Text : Type 0 where
@@ -20,6 +20,10 @@ unfoldable pub with_bytes : Text → List ℕ → Text
 with_bytes t [] = t
 with_bytes t (b ∷ bs) = with_bytes (with_byte t b) bs
 
+-- a writer with the same buffer, and these bytes more in it
+abbrev pub Appends : Writer → Writer → List ℕ → Type 0
+Appends old new bytes = (new.out.ghost_name ≡ old.out.ghost_name) × (text new.out.now new.len ≡ with_bytes (text old.out.now old.len) bytes)
+
 -- whether two texts are the same
 unfoldable pub same : List ℕ → List ℕ → Bool
 same [] [] = true
@@ -31,14 +35,14 @@ same (c ∷ s) (d ∷ t) = cond (eqb c d) (same s t) false
 
 -- an answer, and the buffer afterwards
 pub record Writing : Type 0 where
-  pub written : Written
+  pub written : Result ℕ TooShort
   pub out : List ℕ
 
-abbrev pub writing : Written → List ℕ → Writing
+abbrev pub writing : Result ℕ TooShort → List ℕ → Writing
 writing w out = record { written = w; out = out }
 
 -- the bytes stand at the start of out, or nothing changes where out is too short
 unfoldable pub write_of : List ℕ → List ℕ → Writing
 write_of bytes out =
-    cond (ltb (length out) (length bytes)) (writing Short out)
-    (writing (Bytes (length bytes)) (bytes ++ drop (length bytes) out))
+    cond (ltb (length out) (length bytes)) (writing (Err (record {})) out)
+    (writing (Ok (length bytes)) (bytes ++ drop (length bytes) out))

@@ -4,14 +4,16 @@ mod row;
 
 ghost use Rattle.std.specs.Prelude.{◌≡◌};
 ghost use Rattle.access_log.specs.Line.{ascii, dash, decimal, row, access_bytes, call_bytes, bytes_of};
-ghost use Rattle.access_log.specs.Line.Parts.{field_of};
+ghost use Rattle.access_log.specs.Line.Parts.{field_of, row_of};
 ghost use Rattle.access_log.specs.Text.{text, with_bytes, writing, write_of};
 
-use crate::line::digits::put_decimal;
-use crate::line::row::{Field, put_access_row, put_call_row, put_closing, put_opening};
-use crate::text::{copy, put_bytes};
+use crate::line::row::Field::{Dash, Name, Number, Place, Word};
+use crate::line::row::{Field, Row};
+use crate::text::Writer;
 use calls::types::Access;
 use machine::types::Side;
+use std::error::Error;
+use std::fmt;
 use word::{Port, Priority};
 
 // A call with its arguments as a line has them; the side follows from the call. init_control has VCPU, frame and offset,
@@ -40,155 +42,139 @@ pub enum Line {
     Call(LoggedCall),
 }
 
-// What writing a line comes to: how many bytes were written, or a buffer that is too short.
-#[derive(Clone, Copy)]
-pub enum Written {
-    Bytes(usize),
-    Short,
-}
+// The buffer is too short for the line.
+#[derive(Clone, Copy, PartialEq, Eq, Debug)]
+pub struct TooShort;
 
-fn put_access(out: &mut [u8], side: Side, access: Access, seen: u32) -> usize
-    ensures { text out.new result ≡ with_bytes (text out.old 0) (access_bytes side access seen) }
-{
-    let dash = Field::Dash;
-    let saw = Field::Word(seen);
-    match access {
-        Access::Read(p) => put_access_row(out, side, b"read", p, dash, dash, saw),
-        Access::Store(p, v) => put_access_row(out, side, b"store", p, dash, Field::Word(v), dash),
-        Access::Or(p, v) => put_access_row(out, side, b"or", p, dash, Field::Word(v), saw),
-        Access::And(p, v) => put_access_row(out, side, b"and", p, dash, Field::Word(v), saw),
-        Access::Swap(p, v) => put_access_row(out, side, b"swap", p, dash, Field::Word(v), saw),
-        Access::Cas(p, old, new) => {
-            put_access_row(
-                out,
-                side,
-                b"cas",
-                p,
-                Field::Word(old),
-                Field::Word(new),
-                saw,
-            )
-        }
+impl fmt::Display for TooShort {
+    fn fmt<W: fmt::Write>(&self, f: &mut fmt::Formatter<W>) -> fmt::Result {
+        f.write_str("the buffer is too short for the line")
     }
 }
 
-fn put_call(out: &mut [u8], call: LoggedCall) -> usize
-    ensures { text out.new result ≡ with_bytes (text out.old 0) (call_bytes call) }
+impl Error for TooShort {}
+
+// A read has no operand, a store sees nothing, only a cas has an old word.
+#[tactic(auto, unfolding(crate::specs::Line::Parts::row_of, crate::specs::Line::Parts::fields_of, crate::specs::Line::Parts::field_of, crate::specs::Line::row, crate::specs::Line::access_bytes))]
+fn access_row(side: Side, access: Access, seen: u32) -> Row
+    ensures { row_of result ≡ access_bytes side access seen }
 {
-    let dash = Field::Dash;
+    let seen = Word(seen);
+    let fields = match access {
+        Access::Read(place) => [Name(b"read"), Place(place), Dash, Dash, seen],
+        Access::Store(place, word) => [Name(b"store"), Place(place), Dash, Word(word), Dash],
+        Access::Or(place, word) => [Name(b"or"), Place(place), Dash, Word(word), seen],
+        Access::And(place, word) => [Name(b"and"), Place(place), Dash, Word(word), seen],
+        Access::Swap(place, word) => [Name(b"swap"), Place(place), Dash, Word(word), seen],
+        Access::Cas(place, old, new) => [Name(b"cas"), Place(place), Word(old), Word(new), seen],
+    };
+    Row { side, fields }
+}
+
+// A call with three fields after its name.
+#[tactic(auto, unfolding(crate::specs::Line::Parts::row_of, crate::specs::Line::Parts::fields_of, crate::specs::Line::Parts::field_of, crate::specs::Line::row))]
+fn named_call(side: Side, name: &'static [u8], first: Field, second: Field, third: Field) -> Row
+    ensures { row_of result ≡ row side (ascii "call") name.now (field_of first) (field_of second) (field_of third) }
+{
+    Row {
+        side,
+        fields: [Name(b"call"), Name(name), first, second, third],
+    }
+}
+
+// A call of which a line has the port alone.
+#[tactic(auto, unfolding(crate::specs::Line::Parts::field_of))]
+fn port_call(side: Side, name: &'static [u8], port: Port) -> Row
+    ensures { row_of result ≡ row side (ascii "call") name.now (decimal port.0) dash dash }
+{
+    named_call(side, name, Number(port.0), Dash, Dash)
+}
+
+#[tactic(auto, unfolding(crate::specs::Line::Parts::field_of, crate::specs::Line::call_bytes))]
+fn call_row(call: LoggedCall) -> Row
+    ensures { row_of result ≡ call_bytes call }
+{
     let hypervisor = Side::Hypervisor;
     match call {
         LoggedCall::InitControl(vcpu, frame, offset) => {
-            put_call_row(
-                out,
+            named_call(
                 hypervisor,
                 b"init_control",
-                Field::Number(vcpu),
-                Field::Number(frame),
-                Field::Number(offset),
+                Number(vcpu),
+                Number(frame),
+                Number(offset),
             )
         }
         LoggedCall::ExpandArray(frame) => {
-            put_call_row(
-                out,
-                hypervisor,
-                b"expand_array",
-                dash,
-                Field::Number(frame),
-                dash,
-            )
+            named_call(hypervisor, b"expand_array", Dash, Number(frame), Dash)
         }
-        LoggedCall::Bind(p) => put_call_row(
-            out,
-            hypervisor,
-            b"bind",
-            Field::Number(p.0),
-            dash,
-            dash,
-        ),
-        LoggedCall::Close(p) => put_call_row(
-            out,
-            hypervisor,
-            b"close",
-            Field::Number(p.0),
-            dash,
-            dash,
-        ),
-        LoggedCall::SetPriority(p, priority) => {
-            put_call_row(
-                out,
+        LoggedCall::Bind(port) => port_call(hypervisor, b"bind", port),
+        LoggedCall::Close(port) => port_call(hypervisor, b"close", port),
+        LoggedCall::SetPriority(port, priority) => {
+            named_call(
                 hypervisor,
                 b"set_priority",
-                Field::Number(p.0),
-                Field::Number(priority.0),
-                dash,
+                Number(port.0),
+                Number(priority.0),
+                Dash,
             )
         }
-        LoggedCall::Raise(p) => put_call_row(
-            out,
-            hypervisor,
-            b"raise",
-            Field::Number(p.0),
-            dash,
-            dash,
-        ),
-        LoggedCall::Unmask(p) => put_call_row(
-            out,
-            hypervisor,
-            b"unmask",
-            Field::Number(p.0),
-            dash,
-            dash,
-        ),
-        LoggedCall::Service => put_call_row(out, Side::Guest, b"service", dash, dash, dash),
-        LoggedCall::Mask(p) => {
-            put_call_row(out, Side::Guest, b"mask", Field::Number(p.0), dash, dash)
-        }
-        LoggedCall::ClearMask(p) => {
-            put_call_row(
-                out,
-                Side::Guest,
-                b"clear_mask",
-                Field::Number(p.0),
-                dash,
-                dash,
-            )
-        }
+        LoggedCall::Raise(port) => port_call(hypervisor, b"raise", port),
+        LoggedCall::Unmask(port) => port_call(hypervisor, b"unmask", port),
+        LoggedCall::Service => named_call(Side::Guest, b"service", Dash, Dash, Dash),
+        LoggedCall::Mask(port) => port_call(Side::Guest, b"mask", port),
+        LoggedCall::ClearMask(port) => port_call(Side::Guest, b"clear_mask", port),
     }
 }
 
-fn put_answer(out: &mut [u8], side: Side, number: u32, port: Field) -> usize
-    ensures { text out.new result ≡ with_bytes (text out.old 0) (row side (ascii "answer") (decimal number) (field_of port) dash dash) }
+#[tactic(auto, unfolding(crate::specs::Line::Parts::row_of, crate::specs::Line::Parts::fields_of, crate::specs::Line::Parts::field_of, crate::specs::Line::row))]
+fn answer_row(side: Side, number: u32, port: Field) -> Row
+    ensures { row_of result ≡ row side (ascii "answer") (decimal number) (field_of port) dash dash }
 {
-    let at = put_opening(out, side, b"answer");
-    let end = put_decimal(out, at, number);
-    put_closing(out, end, port, Field::Dash, Field::Dash)
+    Row {
+        side,
+        fields: [Name(b"answer"), Number(number), port, Dash, Dash],
+    }
 }
 
 // A line at the start of a buffer, as far as it fits; the place after it.
+#[tactic(auto, unfolding(crate::specs::Line::Parts::field_of, crate::specs::Line::bytes_of))]
 pub fn put_line(out: &mut [u8], line: Line) -> usize
     ensures { text out.new result ≡ with_bytes (text out.old 0) (bytes_of line) }
 {
-    match line {
-        Line::Header => put_bytes(out, 0, b"accesses\t1\n"),
-        Line::Access(side, access, seen) => put_access(out, side, access, seen),
-        Line::Answer(side, number) => put_answer(out, side, number, Field::Dash),
-        Line::PortAnswer(side, number, port) => {
-            put_answer(out, side, number, Field::Number(port.0))
+    let mut writer = Writer::new(out, 0);
+    let row = match line {
+        Line::Header => {
+            writer.bytes(b"accesses\t1\n");
+            return writer.len;
         }
-        Line::Call(call) => put_call(out, call),
-    }
+        Line::Access(side, access, seen) => access_row(side, access, seen),
+        Line::Answer(side, number) => answer_row(side, number, Dash),
+        Line::PortAnswer(side, number, port) => answer_row(side, number, Number(port.0)),
+        Line::Call(call) => call_row(call),
+    };
+    writer.row(&row);
+    writer.len
 }
 
-// Writes a line to the start of out, or nothing where out is too short.
-pub fn write_line(out: &mut [u8], line: Line) -> Written
+// A line's bytes, in a buffer that every line fits.
+pub(crate) fn line_text(buffer: &mut [u8; 64], line: Line) -> &[u8]
+    ensures { result.now ≡ bytes_of line }
+{
+    let len = put_line(buffer, line);
+    &buffer[..len]
+}
+
+// Writes a line to the start of out, and returns its length; where out is too short, it stays as it is.
+#[tactic(auto, unfolding(crate::specs::Text::write_of))]
+pub fn write_line(out: &mut [u8], line: Line) -> Result<usize, TooShort>
     ensures { writing result out.new ≡ write_of (bytes_of line) out.old }
 {
-    let mut bytes = [0u8; 64];
-    let len = put_line(&mut bytes, line);
-    if out.len() < len {
-        return Written::Short;
+    let mut buffer = [0u8; 64];
+    let text = line_text(&mut buffer, line);
+    if out.len() < text.len() {
+        return Err(TooShort);
     }
-    copy(&bytes[..len], out);
-    Written::Bytes(len)
+    out[..text.len()].copy_from_slice(text);
+    Ok(text.len())
 }

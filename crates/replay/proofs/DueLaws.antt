@@ -1,5 +1,6 @@
 -- What is due, as texts lent and as lines, and the players that code's positions are.
 -- Assumes nothing.
+use Rattle.std.specs.Prelude.{Option, None, Some}
 use Prim.Native.Nat.{ℕ}
 use native.Mathlib.Omega.{arith}
 use mathlib.Core.Path.{◌≡◌, refl, ap, ◌∙◌}
@@ -13,8 +14,6 @@ use Rattle.machine.specs.declared.types.Side.TheVariants as side
 use Rattle.machine.specs.Exec.{World}
 use Rattle.access_log.specs.declared.line.Line.{Line}
 use Rattle.access_log.specs.declared.line.Line.TheVariants as line
-use Rattle.access_log.specs.declared.read.Found.{Found}
-use Rattle.access_log.specs.declared.read.Found.TheVariants as found
 use Rattle.access_log.specs.Line.{bytes_of}
 use Rattle.access_log.specs.Event.{code_line}
 use Rattle.access_log.specs.Read.{read_line}
@@ -53,11 +52,11 @@ pub line_due : (l : Line) (bytes : List ℕ) (len mask : ℕ) → LinePut l byte
 unfolding due_in
 line_due l bytes len mask h = simp (h.is, h.some)
 
-pub missed_line : (f : Found) (due : List ℕ) (len k : ℕ) (w : World) (r : Position) (l : Line) → f ≡ found.Line l → r ≡ at len 0 k 1 → player_at r due w ≡ misses (take len due) k f
+pub missed_line : (f : Option Line) (due : List ℕ) (len k : ℕ) (w : World) (r : Position) (l : Line) → f ≡ Some l → r ≡ at len 0 k 1 → player_at r due w ≡ misses (take len due) k f
 unfolding player_at misses
 missed_line f due len k w r l h e = simp (e, h)
 
-pub missed_form : (f : Found) (due : List ℕ) (len k : ℕ) (w : World) (r : Position) → f ≡ found.NotOfTheForm → r ≡ at len 0 k 22 → player_at r due w ≡ misses (take len due) k f
+pub missed_form : (f : Option Line) (due : List ℕ) (len k : ℕ) (w : World) (r : Position) → f ≡ None → r ≡ at len 0 k 22 → player_at r due w ≡ misses (take len due) k f
 unfolding player_at misses
 missed_form f due len k w r h e = simp (e, h)
 

@@ -1,5 +1,6 @@
 -- What holds of a player after any lines: it counts them, no call's line is due, and a report that stops it is not "all agree".
 -- Assumes nothing.
+use Rattle.std.specs.Prelude.{Option, None, Some}
 use Prim.Native.Nat.{ℕ, ◌+◌, ◌≤◌, ◌<◌}
 use native.Mathlib.Omega.{arith}
 use native.Mathlib.Nat.{add-zero}
@@ -19,10 +20,6 @@ use Rattle.machine.specs.declared.types.Step.TheVariants as step
 use Rattle.machine.specs.Exec.{World, exec}
 use Rattle.access_log.specs.declared.line.Line.{Line}
 use Rattle.access_log.specs.declared.line.Line.TheVariants as line
-use Rattle.access_log.specs.declared.event.Logged.{Logged}
-use Rattle.access_log.specs.declared.event.Logged.TheVariants as logged
-use Rattle.access_log.specs.declared.read.Found.{Found}
-use Rattle.access_log.specs.declared.read.Found.TheVariants as found
 use Rattle.access_log.specs.Line.{carries_port, bytes_of}
 use Rattle.access_log.specs.Event.{access_line, answer_line, line_of}
 use Rattle.access_log.specs.Read.{guess, read_line, kind_of}
@@ -57,9 +54,9 @@ answer_no_call s a =
     choose (λ (l : Line). is_call (kind_of l) ≡ false) (carries_port (code_of a).number) {x = line.PortAnswer s (code_of a).number (port_at (code_of a).value)} refl refl
 
 -- the line, if there is one
-abbrev NoCallLogged : Logged → Type 0
-NoCallLogged logged.None = Unit {0}
-NoCallLogged (logged.Line l) = is_call (kind_of l) ≡ false
+abbrev NoCallLogged : Option Line → Type 0
+NoCallLogged None = Unit {0}
+NoCallLogged (Some l) = is_call (kind_of l) ≡ false
 
 event_no_call : (e : Event) → NoCallLogged (line_of e)
 unfolding line_of access_line
@@ -71,9 +68,9 @@ event_no_call (MaskAccess a seen) = refl
 event_no_call (HypervisorAnswer a count) = answer_no_call _ a
 event_no_call (GuestAnswer a count) = answer_no_call _ a
 
-no_call_then : (g : Logged) (texts : List (List ℕ)) → NoCallLogged g → All NoCall texts → All NoCall (texts_of g texts)
-no_call_then logged.None texts h i = i
-no_call_then (logged.Line l) texts h i = (no_call l h, i)
+no_call_then : (g : Option Line) (texts : List (List ℕ)) → NoCallLogged g → All NoCall texts → All NoCall (texts_of g texts)
+no_call_then None texts h i = i
+no_call_then (Some l) texts h i = (no_call l h, i)
 
 due_no_call : (es : List Event) → All NoCall (due_after es)
 unfolding due_after
@@ -107,11 +104,11 @@ module _ (n : ℕ) (w : World) (j k : ℕ) (e : k ≡ j) (i : j < most_lines) (t
       choose (Fair (j + 1)) (adds n w.domain c && is_full w.domain w.memory.words) {x = stopped (report 33 (next_line k)) []} {y = playing (ran n w c).world (due_after (ran n w c).events) (next_line k)}
       refl (counts, due_no_call _)
 
-  judges_fair : (due : List (List ℕ)) → All NoCall due → (f : Found) → Fair (j + 1) (judges n w due k text f)
-  judges_fair [] h (found.Line l) = opens_fair l
-  judges_fair (d ∷ ds) h (found.Line l) = meets_fair w (d ∷ ds) h
-  judges_fair [] h found.NotOfTheForm = refl
-  judges_fair (d ∷ ds) h found.NotOfTheForm = refl
+  judges_fair : (due : List (List ℕ)) → All NoCall due → (f : Option Line) → Fair (j + 1) (judges n w due k text f)
+  judges_fair [] h (Some l) = opens_fair l
+  judges_fair (d ∷ ds) h (Some l) = meets_fair w (d ∷ ds) h
+  judges_fair [] h None = refl
+  judges_fair (d ∷ ds) h None = refl
 
 pub played_fair : (n j : ℕ) (p : Player) (text : List ℕ) → j < most_lines → Fair j p → Fair (j + 1) (played n p text)
 unfolding played

@@ -1,5 +1,6 @@
 -- What kind of line a text is read as, and of which side, stands in its first two fields: no number in it bears on that.
 -- Assumes nothing.
+use Rattle.std.specs.Prelude.{None, Some}
 use Prim.Native.Nat.{ℕ}
 use native.Mathlib.Omega.{arith}
 use mathlib.Core.Path.{◌≡◌, refl, ap, ◌∙◌}
@@ -16,7 +17,6 @@ use Rattle.access_log.specs.declared.line.LoggedCall.TheVariants.{InitControl, E
 use Rattle.access_log.specs.declared.line.Line.{Line}
 use Rattle.access_log.specs.declared.line.Line.TheVariants as line
 use Rattle.access_log.specs.declared.read.Kind.TheVariants as kind
-use Rattle.access_log.specs.declared.read.Found.TheVariants as found
 use Rattle.access_log.specs.Line.{ascii, dash, decimal, carries_port, row, access_bytes, call_bytes, bytes_of}
 use Rattle.access_log.specs.Read.{field, value, guess_from, guess, kind_of, read_line}
 use Rattle.access_log.specs.Text.{same}
@@ -78,10 +78,10 @@ mask_kept p = fields Guest _ _ _ _ _ refl refl (decimal_plain p.0) refl refl ∙
 
 -- ---- what is read is the guess
 
-read_by : (b : Bool) (g l : Line) → cond b (found.Line g) found.NotOfTheForm ≡ found.Line l → g ≡ l
+read_by : (b : Bool) (g l : Line) → cond b (Some g) None ≡ Some l → g ≡ l
 read_by true g l e = cc
 read_by false g l e = absurd (let z : ◌≡◌ {A = ℕ} 0 1 = cc in omega arith)
 
-pub read_guess : (s : List ℕ) (l : Line) → read_line s ≡ found.Line l → guess s ≡ l
+pub read_guess : (s : List ℕ) (l : Line) → read_line s ≡ Some l → guess s ≡ l
 unfolding read_line
 read_guess s l e = read_by (same (bytes_of (guess s)) s) (guess s) l e

@@ -1,6 +1,7 @@
 -- An event that shows small numbers has a legal line, if it has one: its numbers are below 2 ^ 32, what a store saw is left out, and an
 -- answer has a port exactly if its number carries one.
 -- Assumes nothing.
+use Rattle.std.specs.Prelude.{Option, None, Some}
 use Prim.Native.Nat.{ℕ}
 use mathlib.Core.Path.{◌≡◌, refl}
 use mathlib.Core.Bool.{Bool, true, false, cond}
@@ -15,17 +16,16 @@ use Rattle.machine.specs.declared.types.Side.{Side}
 use Rattle.machine.specs.declared.types.Side.TheVariants.{Hypervisor, Guest}
 use Rattle.machine.specs.declared.types.Event.{Event}
 use Rattle.machine.specs.declared.types.Event.TheVariants.{Nothing, HypervisorAccess, GuestAccess, ClearAccess, MaskAccess, HypervisorAnswer, GuestAnswer}
+use Rattle.access_log.specs.declared.line.Line.{Line}
 use Rattle.access_log.specs.declared.line.Line.TheVariants as line
-use Rattle.access_log.specs.declared.event.Logged.{Logged}
-use Rattle.access_log.specs.declared.event.Logged.TheVariants as logged
 use Rattle.access_log.specs.Line.{carries_port, Small, LegalPlace, LegalAccess, Legal}
 use Rattle.access_log.specs.Event.{seen_in, access_line, answer_line, line_of}
 use Rattle.claims.specs.Numbers.{SmallPlace, SmallAccess, SmallAnswer, SmallEvent}
 
 -- the line, if there is one
-abbrev pub LegalLogged : Logged → Type 0
-LegalLogged logged.None = Unit {0}
-LegalLogged (logged.Line l) = Legal l
+abbrev pub LegalLogged : Option Line → Type 0
+LegalLogged None = Unit {0}
+LegalLogged (Some l) = Legal l
 
 place_legal : (p : Place) → SmallPlace p → LegalPlace p
 unfolding LegalPlace

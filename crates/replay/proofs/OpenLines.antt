@@ -1,6 +1,7 @@
 -- A line of which no newline is read yet: how it goes on and ends, and that it reads as nothing, as any text of more than 53 bytes does.
 -- So the first 64 bytes of a line are played as the line is.
 -- Assumes nothing.
+use Rattle.std.specs.Prelude.{Option, None, Some}
 use Prim.Native.Nat.{ℕ, ◌<◌}
 use native.Mathlib.Omega.{arith}
 use mathlib.Core.Path.{◌≡◌, refl, sym, ap, ◌∙◌, subst}
@@ -11,8 +12,6 @@ use lib.Seq.{take_all, take-append-le, length-take-le}
 use lib.Dec.{eqb, ltb}
 use borrow.Author.Tests.{ltb-true, ltb-false}
 use Rattle.access_log.specs.declared.line.Line.{Line}
-use Rattle.access_log.specs.declared.read.Found.{Found}
-use Rattle.access_log.specs.declared.read.Found.TheVariants as found
 use Rattle.access_log.specs.Line.{newline, bytes_of}
 use Rattle.access_log.specs.Read.{read_line}
 use Rattle.access_log.proofs.Agreement.{agree}
@@ -50,17 +49,17 @@ no_line last h = false≢true (sym h.0)
 no_line (more e r) h = no_line r h.1
 
 -- a text whose readings are all absurd
-unread : (s : List ℕ) → ((l : Line) → bytes_of l ≡ s → ⊥) → read_line s ≡ found.NotOfTheForm
+unread : (s : List ℕ) → ((l : Line) → bytes_of l ≡ s → ⊥) → read_line s ≡ None
 unread s never = go (read_line s) refl
   where
-    go : (f : Found) → read_line s ≡ f → read_line s ≡ found.NotOfTheForm
-    go (found.Line l) e = absurd (never l (agree.read_writes s l e).1)
-    go found.NotOfTheForm e = e
+    go : (f : Option Line) → read_line s ≡ f → read_line s ≡ None
+    go (Some l) e = absurd (never l (agree.read_writes s l e).1)
+    go None e = e
 
-pub open_unread : (s : List ℕ) → Open s → read_line s ≡ found.NotOfTheForm
+pub open_unread : (s : List ℕ) → Open s → read_line s ≡ None
 open_unread s h = unread s (λ l e. no_line (subst IsLine e (line_of l)) h)
 
-long_unread : (s : List ℕ) → 53 < length s → read_line s ≡ found.NotOfTheForm
+long_unread : (s : List ℕ) → 53 < length s → read_line s ≡ None
 long_unread s h = unread s (λ l e. omega (arith, agree.longest l, ap length e))
 
 -- ---- the first 64 bytes
@@ -77,7 +76,7 @@ kept_front s b = go (ltb (length s) 64) refl
         let full = ltb-false (length s) 64 e in
         simp (length-take-le 64 s full, take-append-le 64 s (b ∷ []) full)
 
-unread_played : (n : ℕ) (p : Player) (s t : List ℕ) → read_line s ≡ found.NotOfTheForm → read_line t ≡ found.NotOfTheForm → played n p s ≡ played n p t
+unread_played : (n : ℕ) (p : Player) (s t : List ℕ) → read_line s ≡ None → read_line t ≡ None → played n p s ≡ played n p t
 unfolding played
 unread_played n (playing w due k) s t e f = simp (e, f)
 unread_played n (stopped r d) s t e f = refl

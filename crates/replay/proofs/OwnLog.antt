@@ -1,5 +1,6 @@
 -- The log that `exec` writes replays to "all agree": each line of an act is read, since its numbers are small, and is the one due.
 -- Assumes nothing.
+use Rattle.std.specs.Prelude.{Option, None, Some}
 use Prim.Native.Nat.{ℕ, suc, ◌+◌, ◌≤◌, ◌<◌}
 use native.Mathlib.Omega.{arith}
 use native.Mathlib.Nat.{add-zero, zero-add}
@@ -22,8 +23,6 @@ use Rattle.machine.specs.Exec.{World, exec, exec_all, perform_side, perform_hype
 use Rattle.access_log.specs.declared.line.LoggedCall.{LoggedCall}
 use Rattle.access_log.specs.declared.line.Line.{Line}
 use Rattle.access_log.specs.declared.line.Line.TheVariants as line
-use Rattle.access_log.specs.declared.event.Logged.{Logged}
-use Rattle.access_log.specs.declared.event.Logged.TheVariants as logged
 use Rattle.access_log.specs.Line.{bytes_of, LegalCall, Legal}
 use Rattle.access_log.specs.Event.{access_line, line_of}
 use Rattle.access_log.proofs.FieldLaws.{same_self}
@@ -38,18 +37,18 @@ use Rattle.replay.proofs.PlayLaws.{next_line_lem, counted, over, over_append, re
 
 -- ---- the lines of a step's events: they are due, and they are legal
 
-due_then : (g : Logged) (texts : List (List ℕ)) (ls : List Line) → texts ≡ map bytes_of ls → texts_of g texts ≡ map bytes_of (line_then g ls)
-due_then logged.None texts ls e = e
-due_then (logged.Line l) texts ls e = ap (λ (t : List (List ℕ)). bytes_of l ∷ t) e
+due_then : (g : Option Line) (texts : List (List ℕ)) (ls : List Line) → texts ≡ map bytes_of ls → texts_of g texts ≡ map bytes_of (line_then g ls)
+due_then None texts ls e = e
+due_then (Some l) texts ls e = ap (λ (t : List (List ℕ)). bytes_of l ∷ t) e
 
 due_lines : (es : List Event) → due_after es ≡ map bytes_of (lines_of_events es)
 unfolding due_after lines_of_events
 due_lines [] = refl
 due_lines (e ∷ es) = due_then (line_of e) (due_after es) (lines_of_events es) (due_lines es)
 
-legal_then : (g : Logged) (ls : List Line) → LegalLogged g → All Legal ls → All Legal (line_then g ls)
-legal_then logged.None ls h i = i
-legal_then (logged.Line l) ls h i = (h, i)
+legal_then : (g : Option Line) (ls : List Line) → LegalLogged g → All Legal ls → All Legal (line_then g ls)
+legal_then None ls h i = i
+legal_then (Some l) ls h i = (h, i)
 
 lines_legal : (es : List Event) → All SmallEvent es → All Legal (lines_of_events es)
 unfolding lines_of_events

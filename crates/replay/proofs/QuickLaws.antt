@@ -1,6 +1,7 @@
 -- On a sound player the play as code makes it is the play: a text that is due reads as its line, so it may be compared before it is
 -- read, and an access may be made before its line is.
 -- Assumes nothing.
+use Rattle.std.specs.Prelude.{Option, None, Some}
 use Prim.Native.Nat.{ℕ}
 use mathlib.Core.Path.{◌≡◌, refl, subst}
 use mathlib.Core.Bool.{Bool, true, false, cond}
@@ -12,8 +13,6 @@ use Rattle.machine.specs.declared.types.Step.TheVariants as step
 use Rattle.machine.specs.Exec.{World, exec}
 use Rattle.access_log.specs.declared.line.Line.{Line}
 use Rattle.access_log.specs.declared.line.Line.TheVariants as line
-use Rattle.access_log.specs.declared.read.Found.{Found}
-use Rattle.access_log.specs.declared.read.Found.TheVariants as found
 use Rattle.access_log.specs.Line.{bytes_of}
 use Rattle.access_log.specs.Text.{same}
 use Rattle.access_log.specs.Read.{guess, read_line}
@@ -26,7 +25,7 @@ use Rattle.replay.proofs.SoundPlayers.{LegalText, Sound, due_legal}
 
 -- ---- a line of the form: whatever is due
 
-module _ (k : ℕ) (text : List ℕ) (l : Line) (reads : read_line text ≡ found.Line l) where
+module _ (k : ℕ) (text : List ℕ) (l : Line) (reads : read_line text ≡ Some l) where
   met_line : (w : World) (due : List (List ℕ)) → met w due k text ≡ meets w due k text
   unfolding met misses
   met_line w [] = simp reads
@@ -38,17 +37,17 @@ module _ (k : ℕ) (text : List ℕ) (l : Line) (reads : read_line text ≡ foun
 
 -- ---- one that is not of the form: what is due is a legal line's
 
-text_reads : (d : List ℕ) (h : LegalText d) → read_line d ≡ found.Line h.line
-text_reads d h = subst (λ (s : List ℕ). read_line s ≡ found.Line h.line) h.bytes (agree.written_reads h.line h.legal)
+text_reads : (d : List ℕ) (h : LegalText d) → read_line d ≡ Some h.line
+text_reads d h = subst (λ (s : List ℕ). read_line s ≡ Some h.line) h.bytes (agree.written_reads h.line h.legal)
 
-not_due : (d text : List ℕ) → LegalText d → read_line text ≡ found.NotOfTheForm → same d text ≡ false
+not_due : (d text : List ℕ) → LegalText d → read_line text ≡ None → same d text ≡ false
 not_due d text h reads = go (same d text) refl
   where
     go : (b : Bool) → same d text ≡ b → same d text ≡ false
     go true e = cc (same_eq d text e, text_reads d h)
     go false e = e
 
-module _ (k : ℕ) (text : List ℕ) (reads : read_line text ≡ found.NotOfTheForm) where
+module _ (k : ℕ) (text : List ℕ) (reads : read_line text ≡ None) where
   met_none : (w : World) (due : List (List ℕ)) → All LegalText due → met w due k text ≡ stopped (report 22 (next_line k)) []
   unfolding met misses
   met_none w [] h = simp reads
@@ -63,7 +62,7 @@ module _ (k : ℕ) (text : List ℕ) (reads : read_line text ≡ found.NotOfTheF
 
 -- ---- where nothing is due
 
-opened_line : (n : ℕ) (w : World) (k : ℕ) (text : List ℕ) (l : Line) → read_line text ≡ found.Line l → same (bytes_of l) text ≡ true →
+opened_line : (n : ℕ) (w : World) (k : ℕ) (text : List ℕ) (l : Line) → read_line text ≡ Some l → same (bytes_of l) text ≡ true →
     opened n w k text l ≡ opens n w k text l
 unfolding opened opens
 opened_line n w k text line.Header r e = met_line k text _ r w []
@@ -73,7 +72,7 @@ opened_line n w k text (line.PortAnswer s number port) r e = met_line k text _ r
 opened_line n w k text (line.Call c) r e = simp e
 
 opened_none : {n : ℕ} → Width n → (w : World) → SmallWorld w → (k : ℕ) (text : List ℕ) (l : Line) →
-    read_line text ≡ found.NotOfTheForm → same (bytes_of l) text ≡ false → opened n w k text l ≡ stopped (report 22 (next_line k)) []
+    read_line text ≡ None → same (bytes_of l) text ≡ false → opened n w k text l ≡ stopped (report 22 (next_line k)) []
 unfolding opened
 opened_none wide w i k text line.Header r e = met_none k text r w [] tt
 opened_none wide w i k text (line.Access s a seen) r e = made_none k text r wide w i s
@@ -84,15 +83,15 @@ opened_none wide w i k text (line.Call c) r e = simp e
 -- ---- every line
 
 opened_read : {n : ℕ} → Width n → (w : World) → SmallWorld w → (k : ℕ) (text : List ℕ) (b : Bool) → same (bytes_of (guess text)) text ≡ b →
-    opened n w k text (guess text) ≡ judges n w [] k text (cond b (found.Line (guess text)) found.NotOfTheForm)
+    opened n w k text (guess text) ≡ judges n w [] k text (cond b (Some (guess text)) None)
 unfolding read_line
 opened_read {n} wide w i k text true e = opened_line n w k text (guess text) (simp e) e
 opened_read {n} wide w i k text false e = opened_none wide w i k text (guess text) (simp e) e
 
-met_read : (w : World) (d : List ℕ) (ds : List (List ℕ)) → All LegalText (d ∷ ds) → (n k : ℕ) (text : List ℕ) (f : Found) → read_line text ≡ f →
+met_read : (w : World) (d : List ℕ) (ds : List (List ℕ)) → All LegalText (d ∷ ds) → (n k : ℕ) (text : List ℕ) (f : Option Line) → read_line text ≡ f →
     met w (d ∷ ds) k text ≡ judges n w (d ∷ ds) k text f
-met_read w d ds h n k text (found.Line l) r = met_line k text l r w (d ∷ ds)
-met_read w d ds h n k text found.NotOfTheForm r = met_none k text r w (d ∷ ds) h
+met_read w d ds h n k text (Some l) r = met_line k text l r w (d ∷ ds)
+met_read w d ds h n k text None r = met_none k text r w (d ∷ ds) h
 
 pub quick_played : {n : ℕ} → Width n → (p : Player) → Sound p → (text : List ℕ) → quick n p text ≡ played n p text
 unfolding quick played read_line

@@ -1,7 +1,7 @@
 -- In a log that agrees, another line in place of one that is due, or another access of the same side, differs there; and so does
 -- any other line right after a mask's.
 -- Assumes nothing.
-use Rattle.std.specs.Prelude.{Result, Ok, Err}
+use Rattle.std.specs.Prelude.{Option, None, Some, Result, Ok, Err}
 use Prim.Native.Nat.{ℕ, ◌+◌, ◌≤◌, ◌<◌}
 use native.Mathlib.Omega.{arith}
 use native.Mathlib.Nat.{zero-add, add_assoc}
@@ -20,8 +20,6 @@ use Rattle.machine.specs.Exec.{World, step_of, guest_step, perform_masking, perf
 use Rattle.access_log.specs.declared.line.LoggedCall.TheVariants.{Mask}
 use Rattle.access_log.specs.declared.line.Line.{Line}
 use Rattle.access_log.specs.declared.line.Line.TheVariants as line
-use Rattle.access_log.specs.declared.read.Found.{Found}
-use Rattle.access_log.specs.declared.read.Found.TheVariants as found
 use Rattle.access_log.specs.Line.{bytes_of, Legal}
 use Rattle.access_log.specs.Event.{line_of}
 use Rattle.access_log.specs.Read.{guess, read_line, kind_of}
@@ -109,13 +107,13 @@ stands : (due : List (List ℕ)) (l m : Line) → MayReplace l m → MayStand du
 stands [] l m r = r
 stands (d ∷ ds) l m r = tt
 
-judges_differs : (n : ℕ) (w : World) (due : List (List ℕ)) (k : ℕ) (l m : Line) (f : Found) → read_line (bytes_of l) ≡ f →
+judges_differs : (n : ℕ) (w : World) (due : List (List ℕ)) (k : ℕ) (l m : Line) (f : Option Line) → read_line (bytes_of l) ≡ f →
     goes (judges n w due k (bytes_of l) f) ≡ true → MayStand due l m → bytes_of m ≢ bytes_of l → Differs k (moves n w due k (bytes_of m) m)
-judges_differs n w [] k l m (found.Line x) e g r h =
+judges_differs n w [] k l m (Some x) e g r h =
     opens_differs n w k (bytes_of l) x m g (subst (ByKind m) (sym (kind_kept l) ∙ ap kind_of (read_guess (bytes_of l) x e)) (by_kind l m r)) h
-judges_differs n w (d ∷ ds) k l m (found.Line x) e g r h = meets_differs w (d ∷ ds) k (bytes_of l) (bytes_of m) g h
-judges_differs n w [] k l m found.NotOfTheForm e g r h = absurd (never g)
-judges_differs n w (d ∷ ds) k l m found.NotOfTheForm e g r h = absurd (never g)
+judges_differs n w (d ∷ ds) k l m (Some x) e g r h = meets_differs w (d ∷ ds) k (bytes_of l) (bytes_of m) g h
+judges_differs n w [] k l m None e g r h = absurd (never g)
+judges_differs n w (d ∷ ds) k l m None e g r h = absurd (never g)
 
 played_differs : (n : ℕ) (w : World) (due : List (List ℕ)) (k : ℕ) (l m : Line) → goes (played n (playing w due k) (bytes_of l)) ≡ true →
     MayStand due l m → Legal m → bytes_of m ≢ bytes_of l → Differs k (played n (playing w due k) (bytes_of m))
@@ -183,16 +181,16 @@ meets_no_call : (w : World) (d : List ℕ) (ds : List (List ℕ)) (k : ℕ) (tex
 meets_no_call w d ds k text true s h c g = never (sym h ∙ ap (λ (t : List ℕ). is_call (kind_of (guess t))) (same_eq d text s) ∙ c)
 meets_no_call w d ds k text false s h c g = never g
 
-mask_judged : (n : ℕ) (w : World) (due : List (List ℕ)) (k : ℕ) (p : Port) (f : Found) → read_line (bytes_of (line.Call (Mask p))) ≡ f → All NoCall due →
+mask_judged : (n : ℕ) (w : World) (due : List (List ℕ)) (k : ℕ) (p : Port) (f : Option Line) → read_line (bytes_of (line.Call (Mask p))) ≡ f → All NoCall due →
     goes (judges n w due k (bytes_of (line.Call (Mask p))) f) ≡ true → Waits (judges n w due k (bytes_of (line.Call (Mask p))) f)
-mask_judged n w [] k p (found.Line l) e h g =
+mask_judged n w [] k p (Some l) e h g =
     let text = bytes_of (line.Call (Mask p)) in
     subst (λ (x : Line). Waits (opens n w k text x)) (sym (mask_kept p) ∙ read_guess text l e) (mask_opens n w k text _)
-mask_judged n w (d ∷ ds) k p (found.Line l) e h g =
+mask_judged n w (d ∷ ds) k p (Some l) e h g =
     let text = bytes_of (line.Call (Mask p)) in
     absurd (meets_no_call w d ds k text (same d text) refl h.0 (ap is_call (kind_kept (line.Call (Mask p)))) g)
-mask_judged n w [] k p found.NotOfTheForm e h g = absurd (never g)
-mask_judged n w (d ∷ ds) k p found.NotOfTheForm e h g = absurd (never g)
+mask_judged n w [] k p None e h g = absurd (never g)
+mask_judged n w (d ∷ ds) k p None e h g = absurd (never g)
 
 waiting_by : (n j k : ℕ) (p : Player) (l m : Line) (rest : List (List ℕ)) → Waits p → Fair j p → j < most_lines →
     ends (played_all n (played n p (bytes_of l)) rest) ≡ report 0 k → Legal m → bytes_of m ≢ bytes_of l →

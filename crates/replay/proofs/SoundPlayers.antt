@@ -1,6 +1,7 @@
 -- A sound player: its world's numbers are below 2 ^ 32, and every text that is due is a legal line's. The player at the start is sound,
 -- and the next line of the log leaves it so.
 -- Assumes nothing.
+use Rattle.std.specs.Prelude.{Option, None, Some}
 use Prim.Native.Nat.{ℕ}
 use mathlib.Core.Path.{◌≡◌, refl}
 use mathlib.Core.Bool.{◌&&◌}
@@ -19,10 +20,6 @@ use Rattle.access_log.specs.declared.line.LoggedCall.{LoggedCall}
 use Rattle.access_log.specs.declared.line.LoggedCall.TheVariants.{InitControl, ExpandArray, Bind, Close, SetPriority, Raise, Unmask, Service, Mask, ClearMask}
 use Rattle.access_log.specs.declared.line.Line.{Line}
 use Rattle.access_log.specs.declared.line.Line.TheVariants as line
-use Rattle.access_log.specs.declared.event.Logged.{Logged}
-use Rattle.access_log.specs.declared.event.Logged.TheVariants as logged
-use Rattle.access_log.specs.declared.read.Found.{Found}
-use Rattle.access_log.specs.declared.read.Found.TheVariants as found
 use Rattle.access_log.specs.Line.{bytes_of, Legal}
 use Rattle.access_log.specs.Event.{line_of}
 use Rattle.access_log.specs.Text.{same}
@@ -43,9 +40,9 @@ Sound (stopped r d) = Unit {0}
 
 -- ---- what a step brings
 
-texts_legal : (l : Logged) → LegalLogged l → (texts : List (List ℕ)) → All LegalText texts → All LegalText (texts_of l texts)
-texts_legal logged.None h texts i = i
-texts_legal (logged.Line l) h texts i = (record { line = l; legal = h; bytes = refl }, i)
+texts_legal : (l : Option Line) → LegalLogged l → (texts : List (List ℕ)) → All LegalText texts → All LegalText (texts_of l texts)
+texts_legal None h texts i = i
+texts_legal (Some l) h texts i = (record { line = l; legal = h; bytes = refl }, i)
 
 events_legal : (es : List Event) → All SmallEvent es → All LegalText (due_after es)
 unfolding due_after
@@ -108,9 +105,9 @@ module _ {n : ℕ} (wide : Width n) (w : World) (i : SmallWorld w) (k : ℕ) whe
   moves_sound [] h text l = opens_sound text l
   moves_sound (d ∷ ds) h text l = meets_sound w (d ∷ ds) k text i h
 
-  judges_sound : (due : List (List ℕ)) → All LegalText due → (text : List ℕ) (f : Found) → Sound (judges n w due k text f)
-  judges_sound due h text (found.Line l) = moves_sound due h text l
-  judges_sound due h text found.NotOfTheForm = tt
+  judges_sound : (due : List (List ℕ)) → All LegalText due → (text : List ℕ) (f : Option Line) → Sound (judges n w due k text f)
+  judges_sound due h text (Some l) = moves_sound due h text l
+  judges_sound due h text None = tt
 
 pub played_sound : {n : ℕ} → Width n → (p : Player) (text : List ℕ) → Sound p → Sound (played n p text)
 unfolding played

@@ -1,6 +1,6 @@
 -- What is claimed of a replay. n is the number of link bits.
 -- Assumes nothing.
-use Rattle.std.specs.Prelude.{ℕ, ◌+◌, ◌*◌, ◌≤◌, ◌<◌, ◌≡◌, ◌≢◌, true, false, cond, ◌&&◌, List, [], ◌∷◌, ◌++◌, length}
+use Rattle.std.specs.Prelude.{ℕ, ◌+◌, ◌*◌, ◌≤◌, ◌<◌, ◌≡◌, ◌≢◌, true, false, cond, ◌&&◌, List, [], ◌∷◌, ◌++◌, length, Option, None, Some}
 use Rattle.word.specs.Word.{Width}
 use Rattle.machine.specs.declared.types.Side.{Side}
 use Rattle.machine.specs.declared.types.GuestStart.TheVariants as guest_start
@@ -12,8 +12,6 @@ use Rattle.access_log.specs.declared.line.LoggedCall.{LoggedCall}
 use Rattle.access_log.specs.declared.line.LoggedCall.TheVariants as call
 use Rattle.access_log.specs.declared.line.Line.{Line}
 use Rattle.access_log.specs.declared.line.Line.TheVariants as line
-use Rattle.access_log.specs.declared.event.Logged.{Logged}
-use Rattle.access_log.specs.declared.event.Logged.TheVariants as logged
 use Rattle.access_log.specs.Line.{bytes_of, LegalCall, Legal}
 use Rattle.access_log.specs.Event.{line_of}
 use Rattle.replay.specs.Replay.{fresh_world, step_of_call, adds, is_full, is_busy, report, starts, replay}
@@ -62,9 +60,9 @@ abbrev pub after_act : ℕ → World → Act → World
 after_act n w a = (exec_all n w (steps_of n w a)).world
 
 -- its lines
-abbrev pub line_then : Logged → List Line → List Line
-line_then logged.None ls = ls
-line_then (logged.Line l) ls = l ∷ ls
+abbrev pub line_then : Option Line → List Line → List Line
+line_then None ls = ls
+line_then (Some l) ls = l ∷ ls
 
 unfoldable pub lines_of_events : List Event → List Line
 lines_of_events [] = []

@@ -1,14 +1,12 @@
 -- The play as code makes it: what is due is compared before the line is read, an access is made before its line is read, and the log
 -- comes byte by byte. Where every number is below 2 ^ 32, as it is from the start on, this comes to `replay` (Claims).
 -- Assumes nothing.
-use Rattle.std.specs.Prelude.{ℕ, cond, List, [], ◌∷◌, ◌++◌, length, eqb, ltb}
+use Rattle.std.specs.Prelude.{ℕ, cond, List, [], ◌∷◌, ◌++◌, length, eqb, ltb, Option, None, Some}
 use Rattle.machine.specs.declared.types.Side.{Side}
 use Rattle.machine.specs.declared.types.Step.TheVariants as step
 use Rattle.machine.specs.Exec.{World, exec}
 use Rattle.access_log.specs.declared.line.Line.{Line}
 use Rattle.access_log.specs.declared.line.Line.TheVariants as line
-use Rattle.access_log.specs.declared.read.Found.{Found}
-use Rattle.access_log.specs.declared.read.Found.TheVariants as found
 use Rattle.access_log.specs.Line.{newline, bytes_of}
 use Rattle.access_log.specs.Text.{same}
 use Rattle.access_log.specs.Read.{guess, read_line}
@@ -18,9 +16,9 @@ use Rattle.replay.specs.Replay.{Player, playing, stopped, report, next_line, is_
 -- ---- a line
 
 -- a line that is not the one due
-unfoldable pub misses : List ℕ → ℕ → Found → Player
-misses d k (found.Line l) = stopped (report 1 (next_line k)) d
-misses d k found.NotOfTheForm = stopped (report 22 (next_line k)) []
+unfoldable pub misses : List ℕ → ℕ → Option Line → Player
+misses d k (Some l) = stopped (report 1 (next_line k)) d
+misses d k None = stopped (report 22 (next_line k)) []
 
 unfoldable pub met : World → List (List ℕ) → ℕ → List ℕ → Player
 met w [] k text = misses [] k (read_line text)

@@ -1,7 +1,7 @@
 -- T-02: a recorded log played over fresh lent pages of one domain of 1,024 frames, a fresh lent ledger and a zeroed control block:
 -- every access, word seen and answer is compared with what the machine's own `exec` does. n is the number of link bits.
 -- Assumes nothing.
-use Rattle.std.specs.Prelude.{ℕ, ◌+◌, ◌*◌, Bool, false, cond, not, ◌&&◌, ◌||◌, List, [], ◌∷◌, length, replicate, eqb, ltb}
+use Rattle.std.specs.Prelude.{ℕ, ◌+◌, ◌*◌, Bool, false, cond, not, ◌&&◌, ◌||◌, List, [], ◌∷◌, length, replicate, eqb, ltb, Option, None, Some}
 use Rattle.word.specs.Entry.{fresh_entry}
 use Rattle.calls.specs.declared.types.Domain.{Domain}
 use Rattle.calls.specs.Records.{is_free, is_clearing, fresh_domain, fresh_guest}
@@ -20,10 +20,6 @@ use Rattle.access_log.specs.declared.line.LoggedCall.{LoggedCall}
 use Rattle.access_log.specs.declared.line.LoggedCall.TheVariants.{InitControl, ExpandArray, Bind, Close, SetPriority, Raise, Unmask, Service, Mask, ClearMask}
 use Rattle.access_log.specs.declared.line.Line.{Line}
 use Rattle.access_log.specs.declared.line.Line.TheVariants as line
-use Rattle.access_log.specs.declared.event.Logged.{Logged}
-use Rattle.access_log.specs.declared.event.Logged.TheVariants as logged
-use Rattle.access_log.specs.declared.read.Found.{Found}
-use Rattle.access_log.specs.declared.read.Found.TheVariants as found
 use Rattle.access_log.specs.Line.{newline, bytes_of}
 use Rattle.access_log.specs.Event.{line_of}
 use Rattle.access_log.specs.Text.{same}
@@ -86,9 +82,9 @@ ran n w c = record {
 
 -- ---- the lines that a step brings
 
-abbrev pub texts_of : Logged → List (List ℕ) → List (List ℕ)
-texts_of logged.None texts = texts
-texts_of (logged.Line l) texts = bytes_of l ∷ texts
+abbrev pub texts_of : Option Line → List (List ℕ) → List (List ℕ)
+texts_of None texts = texts
+texts_of (Some l) texts = bytes_of l ∷ texts
 
 unfoldable pub due_after : List Event → List (List ℕ)
 due_after [] = []
@@ -146,9 +142,9 @@ abbrev pub moves : ℕ → World → List (List ℕ) → ℕ → List ℕ → Li
 moves n w [] k text l = opens n w k text l
 moves n w (d ∷ ds) k text l = meets w (d ∷ ds) k text
 
-abbrev pub judges : ℕ → World → List (List ℕ) → ℕ → List ℕ → Found → Player
-judges n w due k text (found.Line l) = moves n w due k text l
-judges n w due k text found.NotOfTheForm = stopped (report 22 (next_line k)) []
+abbrev pub judges : ℕ → World → List (List ℕ) → ℕ → List ℕ → Option Line → Player
+judges n w due k text (Some l) = moves n w due k text l
+judges n w due k text None = stopped (report 22 (next_line k)) []
 
 -- the next line of the log
 unfoldable pub played : ℕ → Player → List ℕ → Player

@@ -1,18 +1,22 @@
--- The parts in which code writes a line of six fields.
+-- The parts in which code writes a line: a row of fields.
 -- Assumes nothing.
 use Rattle.std.specs.Prelude.{ℕ, List, [], ◌∷◌, ◌++◌}
-use Rattle.machine.specs.declared.types.Side.{Side}
 use Rattle.access_log.specs.declared.line.row.Field.{Field}
-use Rattle.access_log.specs.declared.line.row.Field.TheVariants.{Dash, Word, Number}
-use Rattle.access_log.specs.Line.{decimal, hex8, dash, tab, newline, side_of}
+use Rattle.access_log.specs.declared.line.row.Field.TheVariants.{Dash, Name, Place, Word, Number}
+use Rattle.access_log.specs.declared.line.row.Row.{Row}
+use Rattle.access_log.specs.Line.{decimal, hex8, dash, tab, newline, side_of, place_of}
 
 unfoldable pub field_of : Field → List ℕ
 field_of Dash = dash
+field_of (Name name) = name.now
+field_of (Place place) = place_of place
 field_of (Word word) = hex8 word
 field_of (Number n) = decimal n
 
-unfoldable pub opening : Side → List ℕ → List ℕ
-opening side kind = side_of side ++ tab ∷ (kind ++ tab ∷ [])
+-- each field after its tab, and the newline
+unfoldable pub fields_of : List Field → List ℕ
+fields_of [] = newline ∷ []
+fields_of (f ∷ fs) = tab ∷ (field_of f ++ fields_of fs)
 
-unfoldable pub closing : List ℕ → List ℕ → List ℕ → List ℕ
-closing old operand seen = tab ∷ (old ++ tab ∷ (operand ++ tab ∷ (seen ++ newline ∷ [])))
+unfoldable pub row_of : Row → List ℕ
+row_of r = side_of r.side ++ fields_of r.fields

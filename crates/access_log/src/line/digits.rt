@@ -1,10 +1,25 @@
 // Numbers as digits: decimals without leading zeros, words as eight hex digits.
-ghost use Rattle.std.specs.Prelude.{◌≡◌, ◌<◌};
+ghost use Rattle.std.specs.Prelude.{◌≡◌, ◌<◌, ◌≤◌};
 ghost use Rattle.access_log.specs.Line.{digit, digits, places, decimal, hex8};
-ghost use Rattle.access_log.specs.Text.{text, with_bytes};
+ghost use Rattle.access_log.specs.Text.{Appends};
 
-use crate::text::put_byte;
+use crate::text::Writer;
 
+// The powers of ten that a word holds, the highest first.
+const TENS: [u32; 10] = [
+    1_000_000_000,
+    100_000_000,
+    10_000_000,
+    1_000_000,
+    100_000,
+    10_000,
+    1_000,
+    100,
+    10,
+    1,
+];
+
+#[tactic(auto, unfolding(crate::specs::Line::digit))]
 fn digit(value: u32) -> u8
     requires { value < 16 }
     ensures { result ≡ digit value }
@@ -16,31 +31,8 @@ fn digit(value: u32) -> u8
     }
 }
 
-// The last count decimal digits of n, the highest first. A base that the compiler knows saves it a division.
-fn put_decimal_digits(out: &mut [u8], at: usize, count: u32, n: u32) -> usize
-    ensures { text out.new result ≡ with_bytes (text out.old at) (digits 10 count n) }
-{
-    if count == 0 {
-        return at;
-    }
-    let end = put_decimal_digits(out, at, count - 1, n / 10);
-    put_byte(out, end, digit(n % 10))
-}
-
-// The last four hex digits of a number, one after the other: a loop would cost as much again.
-fn put_four(out: &mut [u8], at: usize, n: u32) -> usize
-    ensures { text out.new result ≡ with_bytes (text out.old at) (digits 16 4 n) }
-{
-    let second = n / 16;
-    let third = second / 16;
-    let first = third / 16;
-    let a = put_byte(out, at, digit(first % 16));
-    let b = put_byte(out, a, digit(third % 16));
-    let c = put_byte(out, b, digit(second % 16));
-    put_byte(out, c, digit(n % 16))
-}
-
 // How many digits the decimal n has, or most where that is less.
+#[tactic(auto, using(crate::proofs::DigitLaws::places_one, crate::proofs::DigitLaws::places_more, crate::proofs::DigitLaws::places_le), unfolding(crate::specs::Line::places))]
 fn places(most: u32, n: u32) -> u32
     ensures { result ≡ places most n }
 {
@@ -53,15 +45,37 @@ fn places(most: u32, n: u32) -> u32
     places(most - 1, n / 10) + 1
 }
 
-pub(crate) fn put_decimal(out: &mut [u8], at: usize, n: u32) -> usize
-    ensures { text out.new result ≡ with_bytes (text out.old at) (decimal n) }
+// A word's eight digits.
+#[tactic(auto, using(crate::proofs::DigitLaws::hex_digits))]
+fn hex_digits(word: u32) -> [u8; 8]
+    ensures { result ≡ hex8 word }
 {
-    put_decimal_digits(out, at, places(10, n), n)
+    let digit_at = |shift: u32| digit((word >> shift) % 16);
+    [
+        digit_at(28),
+        digit_at(24),
+        digit_at(20),
+        digit_at(16),
+        digit_at(12),
+        digit_at(8),
+        digit_at(4),
+        digit_at(0),
+    ]
 }
 
-pub(crate) fn put_hex(out: &mut [u8], at: usize, word: u32) -> usize
-    ensures { text out.new result ≡ with_bytes (text out.old at) (hex8 word) }
-{
-    let half = put_four(out, at, word / 16 / 16 / 16 / 16);
-    put_four(out, half, word)
+impl Writer<'_> {
+    #[tactic(auto, using(crate::proofs::DigitLaws::places_le))]
+    pub(crate) fn decimal(&mut self, n: u32)
+        ensures { Appends self.old self.new (decimal n) }
+    {
+        for ten in &TENS[10 - places(10, n) as usize..] {
+            self.byte(digit(n / ten % 10));
+        }
+    }
+
+    pub(crate) fn hex(&mut self, word: u32)
+        ensures { Appends self.old self.new (hex8 word) }
+    {
+        self.bytes(&hex_digits(word));
+    }
 }

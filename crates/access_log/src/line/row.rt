@@ -1,113 +1,86 @@
-// A line of six fields, in three parts: side and kind; the third field; the last three.
+// A line of six fields: a side, and five fields more.
 ghost use Rattle.std.specs.Prelude.{◌≡◌};
-ghost use Rattle.access_log.specs.Line.{ascii, side_of, place_of, row};
-ghost use Rattle.access_log.specs.Line.Parts.{field_of, opening, closing};
-ghost use Rattle.access_log.specs.Text.{text, with_bytes};
+ghost use Rattle.access_log.specs.Line.{side_of, place_of};
+ghost use Rattle.access_log.specs.Line.Parts.{field_of, fields_of, row_of};
+ghost use Rattle.access_log.specs.Text.{Appends};
 
-use crate::line::digits::{put_decimal, put_hex};
-use crate::text::{put_byte, put_bytes};
+use crate::text::Writer;
 use calls::types::Place;
 use machine::types::Side;
 
-// One of the last three fields: a dash where there is nothing, a word, a number.
+// A field after the side: a dash where there is nothing, a name, a place, a word in hex, a decimal.
 #[derive(Clone, Copy)]
 pub(crate) enum Field {
     Dash,
+    Name(&'static [u8]),
+    Place(Place),
     Word(u32),
     Number(u32),
 }
 
-fn put_side(out: &mut [u8], at: usize, side: Side) -> usize
-    ensures { text out.new result ≡ with_bytes (text out.old at) (side_of side) }
-{
-    match side {
-        Side::Hypervisor => put_byte(out, at, b'X'),
-        Side::Guest => put_byte(out, at, b'G'),
-    }
+#[derive(Clone, Copy)]
+pub(crate) struct Row {
+    pub(crate) side: Side,
+    pub(crate) fields: [Field; 5],
 }
 
-fn put_place(out: &mut [u8], at: usize, place: Place) -> usize
-    ensures { text out.new result ≡ with_bytes (text out.old at) (place_of place) }
-{
-    match place {
-        Place::Word(port) => {
-            let digits = put_byte(out, at, b'w');
-            put_decimal(out, digits, port.0)
-        }
-        Place::Ready => put_bytes(out, at, b"ready"),
-        Place::Head(queue) => {
-            let digits = put_byte(out, at, b'h');
-            put_decimal(out, digits, queue.0)
+impl Writer<'_> {
+    #[tactic(auto, unfolding(crate::specs::Line::side_of, crate::specs::Text::with_bytes))]
+    fn side(&mut self, side: Side)
+        ensures { Appends self.old self.new (side_of side) }
+    {
+        match side {
+            Side::Hypervisor => self.byte(b'X'),
+            Side::Guest => self.byte(b'G'),
         }
     }
-}
 
-fn put_field(out: &mut [u8], at: usize, field: Field) -> usize
-    ensures { text out.new result ≡ with_bytes (text out.old at) (field_of field) }
-{
-    match field {
-        Field::Dash => put_byte(out, at, b'-'),
-        Field::Word(word) => put_hex(out, at, word),
-        Field::Number(n) => put_decimal(out, at, n),
+    #[tactic(auto, using(crate::proofs::TextLaws::with_append), unfolding(crate::specs::Line::place_of, crate::specs::Text::with_bytes))]
+    fn place(&mut self, place: Place)
+        ensures { Appends self.old self.new (place_of place) }
+    {
+        match place {
+            Place::Word(port) => {
+                self.byte(b'w');
+                self.decimal(port.0);
+            }
+            Place::Ready => self.bytes(b"ready"),
+            Place::Head(queue) => {
+                self.byte(b'h');
+                self.decimal(queue.0);
+            }
+        }
     }
-}
 
-// Side and kind, each with its tab.
-pub(crate) fn put_opening(out: &mut [u8], side: Side, kind: &[u8]) -> usize
-    ensures { text out.new result ≡ with_bytes (text out.old 0) (opening side kind.now) }
-{
-    let sided = put_side(out, 0, side);
-    let parted = put_byte(out, sided, b'\t');
-    let named = put_bytes(out, parted, kind);
-    put_byte(out, named, b'\t')
-}
+    #[tactic(auto, unfolding(crate::specs::Line::Parts::field_of))]
+    fn field(&mut self, field: &Field)
+        ensures { Appends self.old self.new (field_of field.now) }
+    {
+        match *field {
+            Field::Dash => self.byte(b'-'),
+            Field::Name(name) => self.bytes(name),
+            Field::Place(place) => self.place(place),
+            Field::Word(word) => self.hex(word),
+            Field::Number(n) => self.decimal(n),
+        }
+    }
 
-// The last three fields, each after its tab, and the newline.
-pub(crate) fn put_closing(
-    out: &mut [u8],
-    at: usize,
-    old: Field,
-    operand: Field,
-    seen: Field,
-) -> usize
-    ensures { text out.new result ≡ with_bytes (text out.old at) (closing (field_of old) (field_of operand) (field_of seen)) }
-{
-    let first = put_byte(out, at, b'\t');
-    let second = put_field(out, first, old);
-    let third = put_byte(out, second, b'\t');
-    let fourth = put_field(out, third, operand);
-    let fifth = put_byte(out, fourth, b'\t');
-    let sixth = put_field(out, fifth, seen);
-    put_byte(out, sixth, b'\n')
-}
+    // The fields, each after its tab, and the newline.
+    fn fields(&mut self, fields: &[Field])
+        ensures { Appends self.old self.new (fields_of fields.now) }
+    {
+        for field in fields {
+            self.byte(b'\t');
+            self.field(field);
+        }
+        self.byte(b'\n');
+    }
 
-pub(crate) fn put_access_row(
-    out: &mut [u8],
-    side: Side,
-    kind: &[u8],
-    place: Place,
-    old: Field,
-    operand: Field,
-    seen: Field,
-) -> usize
-    ensures { text out.new result ≡ with_bytes (text out.old 0) (row side kind.now (place_of place) (field_of old) (field_of operand) (field_of seen)) }
-{
-    let at = put_opening(out, side, kind);
-    let end = put_place(out, at, place);
-    put_closing(out, end, old, operand, seen)
-}
-
-pub(crate) fn put_call_row(
-    out: &mut [u8],
-    side: Side,
-    name: &[u8],
-    first: Field,
-    second: Field,
-    third: Field,
-) -> usize
-    ensures { text out.new result ≡ with_bytes (text out.old 0) (row side (ascii "call") name.now (field_of first) (field_of second) (field_of third)) }
-{
-    let at = put_opening(out, side, b"call");
-    let end = put_bytes(out, at, name);
-    put_closing(out, end, first, second, third)
+    #[tactic(auto, using(crate::proofs::TextLaws::with_append), unfolding(crate::specs::Line::Parts::row_of))]
+    pub(crate) fn row(&mut self, row: &Row)
+        ensures { Appends self.old self.new (row_of row.now) }
+    {
+        self.side(row.side);
+        self.fields(&row.fields);
+    }
 }

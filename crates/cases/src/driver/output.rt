@@ -1,7 +1,6 @@
 // Lines of the log and of the counts, written to standard output.
 use crate::driver::run::due;
-use access_log::event::Logged;
-use access_log::line::{Line, Written};
+use access_log::line::Line;
 use calls::answer::Code;
 use calls::types::{Answer, Next};
 use machine::types::{Event, Side, Sides, Step};
@@ -9,8 +8,7 @@ use std::io;
 use std::io::Write;
 
 fn write_line(out: &mut impl Write, space: &mut [u8], line: Line) -> io::Result<()> {
-    let written = access_log::line::write_line(space, line);
-    let Written::Bytes(len) = written else {
+    let Ok(len) = access_log::line::write_line(space, line) else {
         return Ok(());
     };
     match space.get(..len) {
@@ -25,10 +23,9 @@ pub(crate) fn print_line(out: &mut impl Write, line: Line) -> io::Result<()> {
 }
 
 fn print_event(out: &mut impl Write, event: Event) -> io::Result<()> {
-    let logged = access_log::event::line_of(event);
-    match logged {
-        Logged::None => Ok(()),
-        Logged::Line(line) => print_line(out, line),
+    match access_log::event::line_of(event) {
+        None => Ok(()),
+        Some(line) => print_line(out, line),
     }
 }
 

@@ -11,7 +11,7 @@ use crate::player::Position;
 use crate::player::named::{code_in, is_answer};
 use access_log::event::code_line;
 use access_log::line::{Line, put_line};
-use access_log::read::{Found, read_line};
+use access_log::read::read_line;
 use access_log::text::starts_as;
 use evtchn_fifo::encoded::PackedNext;
 use machine::types::Side;
@@ -57,8 +57,8 @@ pub(crate) fn miss(due: usize, lines: u64, text: &[u8]) -> Position
     ensures { (w : World) (bytes : List ℕ) → player_at result bytes w ≡ misses (take due bytes) lines (read_line text.now) }
 {
     match read_line(text) {
-        Found::Line(_) => stopped(due, lines, 1),
-        Found::NotOfTheForm => stopped(due, lines, 22),
+        Some(_) => stopped(due, lines, 1),
+        None => stopped(due, lines, 22),
     }
 }
 
