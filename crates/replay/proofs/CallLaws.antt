@@ -8,7 +8,7 @@ use mathlib.Core.List.{List, [], ◌∷◌}
 use native.Mathlib.Omega.{arith}
 use lib.ListN.{length}
 use lib.Dec.{eqb, ltb, leb}
-use borrow.Author.Tests.{ltb-true, leb-false, le-ltb}
+use borrow.Author.Tests.{ltb-true, leb-false, lt-ltb, le-ltb}
 use Rattle.word.specs.declared.Port.{Port}
 use Rattle.word.specs.declared.Flag.TheVariants.{Masked}
 use Rattle.word.specs.Word.{link_bits, link_bits-width, mask}
@@ -29,7 +29,7 @@ use Rattle.machine.specs.declared.types.GuestStart.TheVariants as guest_start
 use Rattle.machine.specs.declared.types.Step.TheVariants as step
 use Rattle.machine.specs.Memory.{memory, Performed, did, performed, zero_page}
 use Rattle.machine.specs.Exec.{World, Stepped, exec, list_of, hypervisor_answer}
-use Rattle.access_log.specs.declared.line.Line.{Line}
+use Rattle.access_log.specs.declared.line.Line.TheVariants as line
 use Rattle.access_log.specs.declared.line.LoggedCall.{LoggedCall}
 use Rattle.access_log.specs.declared.line.LoggedCall.TheVariants as call
 use Rattle.access_log.specs.Line.{LegalCall, bytes_of}
@@ -47,10 +47,11 @@ use Rattle.exported.specs.Run.{Bytes, world_of, ledger_kept, LongEnough, step_by
 use Rattle.exported.specs.Demands.{Starts}
 use Rattle.exported.proofs.Meanings.{request_length}
 use Rattle.exported.proofs.Runs.{step_is, added_is, mask_narrow}
-use Rattle.replay.specs.declared.player.Position.{Position}
+use Rattle.std.specs.Prelude.{Option, Ok, Err}
+use Rattle.replay.specs.declared.player.due.Due.{Due}
+use Rattle.replay.specs.declared.player.due.Stop.TheVariants.{NotLent}
 use Rattle.replay.specs.Replay.{Player, playing, next_line, frames, step_of_call, adds, told, ran, due_after, begins}
-use Rattle.replay.specs.State.{world_in, result_due, at, player_at}
-use Rattle.replay.proofs.DueLaws.{LinePut, playing_at, line_due}
+use Rattle.replay.specs.State.{world_in, due_lines, result_due, after_line}
 use Rattle.replay.proofs.ResultLaws.{request_due, access_number, access_read, answer_read}
 use Rattle.replay.proofs.StepLaws.{some_bits, narrow_small, call_exec, call_begins, hypervisor_began}
 
@@ -110,18 +111,18 @@ module _ (d t g ws b : List ℕ) (domain-long : domain_size ≤ length d) (guest
     no_page : eqb x.code 0 ≡ false → run.words_after link_bits d ws (start.ExpandArray frame frames) ≡ ws
     no_page h = simp (← ran-expand, h)
 
-    pub expand_refused : (r : Position) (due : List ℕ) → eqb x.code 0 ≡ false → ((w : World) → player_at r due w ≡ playing w (result_due side.Hypervisor x) (next_line k)) →
-        player_at r due (world_in d' t g ws b) ≡ begins link_bits here k (call.ExpandArray frame)
+    pub expand_refused : (r : Option Due) (due : List ℕ) → eqb x.code 0 ≡ false → due_lines r due ≡ result_due side.Hypervisor x →
+        after_line (Ok r) k due (world_in d' t g ws b) ≡ begins link_bits here k (call.ExpandArray frame)
     unfolding step_of_call run.start_bytes
     expand_refused r due h m =
         hypervisor_began d t g ws b domain-long guest-long (call.ExpandArray frame) (start.ExpandArray frame frames) x d' t k r due legal (adds_is ∙ h) refl (no_page h) (ap (ledger_kept t) ran-expand) m
 
-    pub expand_past : (pages : ℕ) (r : Position) (due : List ℕ) (v : World) → eqb x.code 0 ≡ true → pages ≡ pages_in d → ltb (length ws) (1024 * (pages + 1)) ≡ true → r ≡ at 0 0 k 33 →
-        player_at r due v ≡ begins link_bits here k (call.ExpandArray frame)
-    unfolding player_at domain_at
-    expand_past pages r due v h p full e =
-        let f : ltb (length ws) (1024 * (pages_at d + 1)) ≡ true = rw (sym (p ∙ pages_long d domain-long)) full in
-        simp (e, adds_is, h, f)
+    pub expand_past : (pages : ℕ) (due : List ℕ) (v : World) → eqb x.code 0 ≡ true → pages ≡ pages_in d → length ws < 1024 * (pages + 1) →
+        after_line (Err NotLent) k due v ≡ begins link_bits here k (call.ExpandArray frame)
+    unfolding after_line domain_at
+    expand_past pages due v h p full =
+        let f : ltb (length ws) (1024 * (pages_at d + 1)) ≡ true = lt-ltb _ _ (rw (sym (p ∙ pages_long d domain-long)) full) in
+        simp (adds_is, h, f)
 
     -- her number of words follows
     abbrev zeroed : List ℕ
@@ -177,16 +178,17 @@ module _ (d t g ws b : List ℕ) (domain-long : domain_size ≤ length d) (guest
         ∙ ap (λ (w : World). playing w (due_after (list_of (hypervisor_answer (decoded_next x)))) (next_line k)) (told_is h)
         ∙ ap (λ (ds : List (List ℕ)). playing (world_in d' t (tell_bytes g (1024 * pages_at d')).record_bytes zeroed b) ds (next_line k)) (sym x_due))
 
-    pub expand_added : (pages more : ℕ) (ws' g' : List ℕ) (z : EncodedNext) (r : Position) (due : List ℕ) → eqb x.code 0 ≡ true → pages ≡ pages_in d → ltb (length ws) (1024 * (pages + 1)) ≡ false →
-        ws' ≡ zero_page pages ws → more ≡ pages_in d' → wrote z g' ≡ tell_bytes g (1024 * more) → ((w : World) → player_at r due w ≡ playing w (result_due side.Hypervisor x) (next_line k)) →
-        player_at r due (world_in d' t g' ws' b) ≡ begins link_bits here k (call.ExpandArray frame)
+    pub expand_added : (pages more : ℕ) (ws' g' : List ℕ) (z : EncodedNext) (r : Option Due) (due : List ℕ) → eqb x.code 0 ≡ true → pages ≡ pages_in d → 1024 * (pages + 1) ≤ length ws →
+        ws' ≡ zero_page pages ws → more ≡ pages_in d' → wrote z g' ≡ tell_bytes g (1024 * more) → due_lines r due ≡ result_due side.Hypervisor x →
+        after_line (Ok r) k due (world_in d' t g' ws' b) ≡ begins link_bits here k (call.ExpandArray frame)
+    unfolding after_line
     expand_added pages more ws' g' z r due h p full zero q tell m =
         let p' : pages ≡ pages_at d = p ∙ pages_long d domain-long in
         let q' : more ≡ pages_at d' = q ∙ pages_long d' added_long in
-        m (world_in d' t g' ws' b)
+        ap (λ (ds : List (List ℕ)). playing (world_in d' t g' ws' b) ds (next_line k)) m
         ∙ ap (λ (v : List ℕ). playing (world_in d' t g' v b) (result_due side.Hypervisor x) (next_line k)) (zero ∙ ap (λ (n : ℕ). zero_page n ws) p')
         ∙ ap (λ (w : Wrote). playing (world_in d' t w.record_bytes zeroed b) (result_due side.Hypervisor x) (next_line k)) (tell ∙ ap (λ (n : ℕ). tell_bytes g (1024 * n)) q')
-        ∙ sym (expand_begins h (rw (sym p') full))
+        ∙ sym (expand_begins h (le-ltb _ _ (rw (sym p') full)))
 
   -- ---- a mask
 
@@ -219,10 +221,11 @@ module _ (d t g ws b : List ℕ) (domain-long : domain_size ≤ length d) (guest
     mask_due : ltb x.code 0x100 ≡ true → due_after (run.perform_mask lent (decoded_next x)).events ≡ result_due side.Guest x
     mask_due = rw (named_here ∙ mask_narrow link_bits-width lent long p.0 (words_at g)) (masking_refused _ (words_at g))
 
-    pub mask_refused : (r : Position) (due : List ℕ) → ltb x.code 0x100 ≡ true → ((w : World) → player_at r due w ≡ playing w (result_due side.Guest x) (next_line k)) →
-        player_at r due here ≡ begins link_bits here k (call.Mask p)
+    pub mask_refused : (r : Option Due) (due : List ℕ) → ltb x.code 0x100 ≡ true → due_lines r due ≡ result_due side.Guest x →
+        after_line (Ok r) k due here ≡ begins link_bits here k (call.Mask p)
+    unfolding after_line
     mask_refused r due h m =
-        m here
+        ap (λ (ds : List (List ℕ)). playing here ds (next_line k)) m
         ∙ ap (λ (ds : List (List ℕ)). playing here ds (next_line k)) (sym (mask_due h))
         ∙ ap (λ (w : World). playing w (due_after (run.perform_mask lent (decoded_next x)).events) (next_line k)) (sym (ap (λ (y : Next). world_of (run.perform_mask lent y).bytes) (answer_read x h)))
         ∙ sym mask_begins
@@ -238,10 +241,10 @@ module _ (d t g ws b : List ℕ) (domain-long : domain_size ≤ length d) (guest
         (mask_begins
         ∙ ap (λ (y : Next). playing (world_of (run.perform_mask lent y).bytes) (due_after (run.perform_mask lent y).events) (next_line k)) e)
 
-    pub mask_made : (a : Access) (ws' b' : List ℕ) (seen : ℕ) (l : Line) (due : List ℕ) (len j : ℕ) (r : Position) → ltb x.code 0x100 ≡ false → a ≡ decoded_access x →
-        did (memory ws' b') seen ≡ performed (memory ws b) a → l ≡ access_line side.Guest a seen → LinePut l due len → j ≡ next_line k → r ≡ at len 1 j 0 →
-        player_at r due (world_in d t g ws' b') ≡ begins link_bits here k (call.Mask p)
-    unfolding answer_line code_of
-    mask_made a ws' b' seen l due len j r h f q e put n i =
-        simp (i, n, playing_at due len 1 (next_line k) (world_in d t g ws' b'), line_due l due len 1 put, e)
-        (ap (masked_of a) q ∙ masked_begins a (access_read x h ∙ ap next.Access (sym f)))
+    pub mask_made : (a : Access) (ws' b' : List ℕ) (seen : ℕ) (r : Option Due) (due : List ℕ) → ltb x.code 0x100 ≡ false → decoded_access x ≡ a →
+        did (memory ws' b') seen ≡ performed (memory ws b) a → due_lines r due ≡ bytes_of (access_line side.Guest a seen) ∷ bytes_of (line.Answer side.Guest 0) ∷ [] →
+        after_line (Ok r) k due (world_in d t g ws' b') ≡ begins link_bits here k (call.Mask p)
+    unfolding after_line answer_line code_of
+    mask_made a ws' b' seen r due h f q m =
+        ap (λ (ds : List (List ℕ)). playing (world_in d t g ws' b') ds (next_line k)) m
+        ∙ (ap (masked_of a) q ∙ masked_begins a (access_read x h ∙ ap next.Access f))

@@ -4,22 +4,30 @@ use Prim.Native.Nat.{ℕ, suc, ◌+◌, ◌-◌, ◌≤◌, ◌<◌}
 use native.Mathlib.Omega.{arith}
 use native.Mathlib.Numerals.{add-one}
 use mathlib.Core.Path.{◌≡◌, refl, ap, ◌∙◌, sym}
-use mathlib.Core.Bool.{Bool, true, false, cond, true≢false, false≢true}
+use mathlib.Core.Logic.{◌≢◌}
+use mathlib.Core.Bool.{Bool, true, false, cond, not, true≢false, false≢true}
 use mathlib.Core.List.{List, [], ◌∷◌, ◌++◌, append_assoc, append-nil}
-use lib.ListN.{length, take, drop, set, get_or, length-take, length-drop, length-set, length-append, take-append-drop, drop_of_length-le}
-use lib.Seq.{take_all, take-suc-set, drop-drop, drop-cons}
+use lib.ListN.{length, take, drop, set, get_or, length-take, length-drop, length-set, length-append, take-append-drop}
+use Rattle.std.proofs.lemmas.List.{take_min}
+use lib.Seq.{take-suc-set}
 use lib.Dec.{eqb, ltb}
-use borrow.Author.Tests.{lt-ltb, le-ltb, ltb-true, ltb-false, eqb-true, eqb-false}
+use borrow.Author.Tests.{lt-ltb, le-ltb, ltb-true, ltb-false, ne_eqb, eqb-false}
 use Rattle.word.specs.Word.{link_bits}
 use Rattle.calls.proofs.Cases.{by_test}
 use Rattle.machine.specs.Exec.{World}
 use Rattle.access_log.specs.Line.{newline}
 use Rattle.access_log.specs.Text.{Text, text, with_byte, with_bytes}
+use Rattle.std.specs.Prelude.{min, Option, Some, None, Result, Ok, Err, position}
+use Rattle.std.specs.List.{position_or_len}
 use Rattle.replay.specs.declared.player.Position.{Position}
+use Rattle.replay.specs.declared.player.due.Due.{Due}
+use Rattle.replay.specs.declared.player.due.Stop.{Stop}
+use Rattle.replay.specs.declared.player.progress.Playing.{Playing}
+use Rattle.replay.specs.declared.player.progress.Stopped.{Stopped}
 use Rattle.replay.specs.declared.player.Report.{Report}
 use Rattle.replay.specs.Replay.{Player, playing, stopped, report, next_line, ends}
 use Rattle.replay.specs.Player.{quick, Feed, feed, kept, line_ended, fed_byte, fed, lastly, reports}
-use Rattle.replay.specs.State.{due_in, player_at, feed_at, at_line, line_length, ends_line, ends_after}
+use Rattle.replay.specs.State.{due_in, due_lines, stopped_by, after_line, player_at, feed_at, feed_of, line_length, ends_line, ends_after}
 
 -- ---- bytes kept
 
@@ -66,6 +74,19 @@ kept_more l [] h = sym (append-nil l)
 kept_more l (b ∷ bs) h =
     simp (lt-ltb (length l) 64 (omega arith)) (kept_more (l ++ b ∷ []) bs (omega (arith, length-append l (b ∷ []))) ∙ append_assoc l (b ∷ []) bs)
 
+-- the kept bytes are no more than the buffer
+with_size : (bs : List ℕ) (t : Text) → length (with_bytes t bs).bytes ≡ length t.bytes
+unfolding with_bytes
+with_size [] t = refl
+with_size (b ∷ bs) t = with_size bs (with_byte t b) ∙ with_length t b
+
+kept_size : (bs line after : List ℕ) (len end : ℕ) → length line ≡ 64 → text after end ≡ with_bytes (text line len) bs → length after ≡ 64
+unfolding text
+kept_size bs line after len end h e = ap (λ (t : Text). length t.bytes) e ∙ with_size bs (text line len) ∙ h
+
+take_most : (after : List ℕ) (end : ℕ) → length after ≡ 64 → take (min end 64) after ≡ take end after
+take_most after end h = ap (λ (n : ℕ). take (min end n) after) (sym h) ∙ take_min end after
+
 -- ---- a line, or a part of one
 
 module _ (n : ℕ) (w : World) (due : List (List ℕ)) (k : ℕ) where
@@ -103,87 +124,68 @@ module _ (n : ℕ) (w : World) (due : List (List ℕ)) (k : ℕ) where
 
 -- ---- positions
 
-live_player : (p : Position) (due : List ℕ) (w : World) → eqb p.stop 0 ≡ true → player_at p due w ≡ playing w (due_in due p.due p.mask) p.lines
-unfolding player_at
-live_player p due w e = simp e
+module _ (p : Playing) (line due bs : List ℕ) (w : World) (one : line_length bs ≡ length bs) where
+  abbrev ds : List (List ℕ)
+  ds = due_lines p.due due
 
-ended_playing : (q : Position) (due : List ℕ) (w : World) (l : List ℕ) → eqb q.stop 0 ≡ true → line_ended (player_at q due w) l ≡ feed (player_at q due w) []
-unfolding player_at
-ended_playing q due w l f = simp f
-
-ended_stopped : (q : Position) (due : List ℕ) (w : World) (l : List ℕ) → eqb q.stop 0 ≡ false → line_ended (player_at q due w) l ≡ feed (player_at q due w) l
-unfolding player_at
-ended_stopped q due w l f = simp f
-
-module _ (p : Position) (live : eqb p.stop 0 ≡ true) (line due bs : List ℕ) (w : World) (one : line_length bs ≡ length bs) where
   abbrev here : Feed
-  here = fed link_bits (feed_at p line due w) bs
+  here = fed link_bits (feed_of (Ok p) line due w) bs
 
-  here_open : ends_line bs ≡ false → here ≡ feed (player_at p due w) (kept_all (take p.line line) bs)
-  unfolding feed_at
-  here_open e = rw (live_player p due w live) (fed_open link_bits w (due_in due p.due p.mask) p.lines bs (take p.line line) one e)
+  here_ended : ends_line bs ≡ true → here ≡ line_ended (quick link_bits (playing w ds p.lines) (kept_all (take p.line line) bs)) (kept_all (take p.line line) bs)
+  unfolding feed_of
+  here_ended e = fed_ended link_bits w ds p.lines bs (take p.line line) one e
 
-  here_ended : ends_line bs ≡ true → here ≡ line_ended (quick link_bits (player_at p due w) (kept_all (take p.line line) bs)) (kept_all (take p.line line) bs)
-  unfolding feed_at
-  here_ended e = rw (live_player p due w live) (fed_ended link_bits w (due_in due p.due p.mask) p.lines bs (take p.line line) one e)
+  pub part_kept : (after : List ℕ) (end : ℕ) → length line ≡ 64 → ends_line bs ≡ false → text after end ≡ with_bytes (text line p.line) bs →
+      feed_of (Ok (record { lines = p.lines; line = end; due = p.due })) after due w ≡ here
+  unfolding feed_of
+  part_kept after end size e put =
+      ap (feed (playing w ds p.lines)) (kept_text bs line after p.line end size put) ∙ sym (fed_open link_bits w ds p.lines bs (take p.line line) one e)
 
-  pub part_kept : (r : Position) (after : List ℕ) (end : ℕ) → length line ≡ 64 → ends_line bs ≡ false → text after end ≡ with_bytes (text line p.line) bs → r ≡ at_line p end →
-      feed_at r after due w ≡ here
-  unfolding feed_at player_at
-  part_kept r after end size e put f =
-      ap (λ (x : Position). feed_at x after due w) f
-      ∙ ap (feed (player_at p due w)) (kept_text bs line after p.line end size put)
-      ∙ sym (here_open e)
-
-  module _ (ended : ends_line bs ≡ true) (after : List ℕ) (end : ℕ) (is : take end after ≡ kept_all (take p.line line) bs) (q : Position) (due' : List ℕ) (w' : World)
-      (played : player_at q due' w' ≡ quick link_bits (player_at p due w) (take end after)) where
-    here_played : here ≡ line_ended (player_at q due' w') (take end after)
+  module _ (ended : ends_line bs ≡ true) (l : List ℕ) (is : l ≡ kept_all (take p.line line) bs) (r : Result (Option Due) Stop) (due' : List ℕ) (w' : World)
+      (played : (k : ℕ) → after_line r k due' w' ≡ quick link_bits (playing w ds k) l) where
+    here_played : here ≡ line_ended (after_line r p.lines due' w') l
     here_played =
         here_ended ended
-        ∙ ap (λ (l : List ℕ). line_ended (quick link_bits (player_at p due w) l) l) (sym is)
-        ∙ ap (λ (x : Player). line_ended x (take end after)) (sym played)
+        ∙ ap (λ (x : List ℕ). line_ended (quick link_bits (playing w ds p.lines) x) x) (sym is)
+        ∙ ap (λ (x : Player). line_ended x l) (sym (played p.lines))
 
-    goes_on_lem : (bytes : List ℕ) (r : Position) → eqb q.stop 0 ≡ true → r ≡ at_line q 0 → feed_at r bytes due' w' ≡ here
-    unfolding feed_at player_at
-    goes_on_lem bytes r s f =
-        ap (λ (x : Position). feed_at x bytes due' w') f ∙ sym (here_played ∙ ended_playing q due' w' (take end after) s)
+    goes_on_lem : (bytes : List ℕ) (d : Option Due) (q : Playing) → r ≡ Ok d → q ≡ record { lines = next_line p.lines; line = 0; due = d } → feed_of (Ok q) bytes due' w' ≡ here
+    unfolding feed_of after_line
+    goes_on_lem bytes d q e f =
+        ap (λ (x : Playing). feed_of (Ok x) bytes due' w') f ∙ sym (here_played ∙ ap (λ (x : Result (Option Due) Stop). line_ended (after_line x p.lines due' w') l) e)
 
-    stops : (r : Position) → eqb q.stop 0 ≡ false → r ≡ at_line q end → feed_at r after due' w' ≡ here
-    unfolding feed_at player_at
-    stops r s f = ap (λ (x : Position). feed_at x after due' w') f ∙ sym (here_played ∙ ended_stopped q due' w' (take end after) s)
+    stops : (after : List ℕ) (end : ℕ) (s : Stop) (q : Stopped) → r ≡ Err s → q ≡ record { lines = p.lines; line = end; stop = s } → take end after ≡ l → feed_of (Err q) after due' w' ≡ here
+    unfolding feed_of after_line
+    stops after end s q e f g =
+        ap (λ (x : Stopped). feed_of (Err x) after due' w') f
+        ∙ ap (feed (stopped_by s p.lines due')) g
+        ∙ sym (here_played ∙ ap (λ (x : Result (Option Due) Stop). line_ended (after_line x p.lines due' w') l) e)
 
   -- the end of a line whose first bytes are kept
-  module _ (ended : ends_line bs ≡ true) (size : length line ≡ 64) (after : List ℕ) (end : ℕ) (put : text after end ≡ with_bytes (text line p.line) bs) (q : Position) (due' : List ℕ) (w' : World)
-      (played : player_at q due' w' ≡ quick link_bits (player_at p due w) (take end after)) where
-    pub kept_goes_on : (r : Position) → eqb q.stop 0 ≡ true → r ≡ at_line q 0 → feed_at r after due' w' ≡ here
-    kept_goes_on r s f = goes_on_lem ended after end (kept_text bs line after p.line end size put) q due' w' played after r s f
+  module _ (ended : ends_line bs ≡ true) (size : length line ≡ 64) (after : List ℕ) (end : ℕ) (put : text after end ≡ with_bytes (text line p.line) bs) (r : Result (Option Due) Stop) (due' : List ℕ) (w' : World)
+      (played : (k : ℕ) → after_line r k due' w' ≡ quick link_bits (playing w ds k) (take (min end 64) after)) where
+    first : take (min end 64) after ≡ kept_all (take p.line line) bs
+    first = take_most after end (kept_size bs line after p.line end size put) ∙ kept_text bs line after p.line end size put
 
-    pub kept_stops : (r : Position) → eqb q.stop 0 ≡ false → r ≡ at_line q end → feed_at r after due' w' ≡ here
-    kept_stops r s f = stops ended after end (kept_text bs line after p.line end size put) q due' w' played r s f
+    pub kept_goes_on : (d : Option Due) (q : Playing) → r ≡ Ok d → q ≡ record { lines = next_line p.lines; line = 0; due = d } → feed_of (Ok q) after due' w' ≡ here
+    kept_goes_on d q e f = goes_on_lem ended (take (min end 64) after) first r due' w' played after d q e f
+
+    pub kept_stops : (s : Stop) (q : Stopped) → r ≡ Err s → q ≡ record { lines = p.lines; line = end; stop = s } → feed_of (Err q) after due' w' ≡ here
+    kept_stops s q e f = stops ended (take (min end 64) after) first r due' w' played after end s q e f (sym (take_most after end (kept_size bs line after p.line end size put)))
 
   -- a whole line, played where it stands
-  module _ (ended : ends_line bs ≡ true) (none : eqb p.line 0 ≡ true) (fits : length bs ≤ 64) (q : Position) (due' : List ℕ) (w' : World)
-      (played : player_at q due' w' ≡ quick link_bits (player_at p due w) bs) where
-    whole : kept_all (take p.line line) bs ≡ bs
-    whole = rw (eqb-true p.line 0 none) (kept_more [] bs (omega arith))
+  module _ (ended : ends_line bs ≡ true) (none : p.line ≡ 0) (fits : length bs ≤ 64) (r : Result (Option Due) Stop) (due' : List ℕ) (w' : World)
+      (played : (k : ℕ) → after_line r k due' w' ≡ quick link_bits (playing w ds k) bs) where
+    whole : bs ≡ kept_all (take p.line line) bs
+    whole = rw none (sym (kept_more [] bs (omega arith)))
 
-    whole_played : here ≡ line_ended (player_at q due' w') bs
-    whole_played =
-        here_ended ended
-        ∙ ap (λ (l : List ℕ). line_ended (quick link_bits (player_at p due w) l) l) whole
-        ∙ ap (λ (x : Player). line_ended x bs) (sym played)
+    pub whole_goes_on : (d : Option Due) (q : Playing) → r ≡ Ok d → q ≡ record { lines = next_line p.lines; line = 0; due = d } → feed_of (Ok q) line due' w' ≡ here
+    whole_goes_on d q e f = goes_on_lem ended bs whole r due' w' played line d q e f
 
-    pub whole_goes_on : (r : Position) → eqb q.stop 0 ≡ true → r ≡ at_line q 0 → feed_at r line due' w' ≡ here
-    unfolding feed_at player_at
-    whole_goes_on r s f = ap (λ (x : Position). feed_at x line due' w') f ∙ sym (whole_played ∙ ended_playing q due' w' bs s)
-
-    pub whole_stops : (r : Position) (after : List ℕ) (end : ℕ) → length line ≡ 64 → text after end ≡ with_bytes (text line 0) bs → eqb q.stop 0 ≡ false → r ≡ at_line q end → feed_at r after due' w' ≡ here
-    unfolding feed_at player_at
-    whole_stops r after end size put s f =
-        let is : take end after ≡ bs = kept_text bs line after 0 end size put ∙ kept_more [] bs (omega arith) in
-        ap (λ (x : Position). feed_at x after due' w') f
-        ∙ ap (feed (player_at q due' w')) is
-        ∙ sym (whole_played ∙ ended_stopped q due' w' bs s)
+    pub whole_stops : (after : List ℕ) (end : ℕ) (s : Stop) (q : Stopped) → length line ≡ 64 → text after end ≡ with_bytes (text line 0) bs → r ≡ Err s → q ≡ record { lines = p.lines; line = end; stop = s } →
+        feed_of (Err q) after due' w' ≡ here
+    whole_stops after end s q size put e f =
+        stops ended bs whole r due' w' played after end s q e f (kept_text bs line after 0 end size put ∙ kept_more [] bs (omega arith))
 
 -- ---- a piece
 
@@ -192,9 +194,13 @@ unfolding fed fed_byte
 stays n r d line [] = refl
 stays n r d line (b ∷ rest) = stays n r d line rest
 
-pub over_stays : (q : Position) (line due : List ℕ) (w : World) (rest : List ℕ) → eqb q.stop 0 ≡ false → fed link_bits (feed_at q line due w) rest ≡ feed_at q line due w
+pub over_stays : (q : Position) (line due : List ℕ) (w : World) (rest : List ℕ) → eqb q.stop 0 ≡ false → feed_at q line due w ≡ fed link_bits (feed_at q line due w) rest
 unfolding feed_at player_at
-over_stays q line due w rest f = simp f (stays link_bits _ _ (take q.line line) rest)
+over_stays q line due w rest f = simp f (sym (stays link_bits _ _ (take q.line line) rest))
+
+pub stopped_stays : (q : Stopped) (line due : List ℕ) (w : World) (rest : List ℕ) → fed link_bits (feed_of (Err q) line due w) rest ≡ feed_of (Err q) line due w
+unfolding feed_of
+stopped_stays q line due w rest = stays link_bits _ _ (take q.line line) rest
 
 pub fed_append : (n : ℕ) (f : Feed) (a b : List ℕ) → fed n f (a ++ b) ≡ fed n (fed n f a) b
 unfolding fed
@@ -231,22 +237,36 @@ unfolding line_length
 line_some [] h = absurd (omega arith)
 line_some (b ∷ bs) h = some_by (eqb b newline) (line_length bs)
 
--- the loop that finds it
-length_from : (bs : List ℕ) (i : ℕ) (t : Bool) → i < length bs → eqb (get_or bs i 0) newline ≡ t → line_length (drop i bs) ≡ cond t 1 (suc (line_length (drop (i + 1) bs)))
+-- by the place of its newline
+abbrev is_newline : ℕ → Bool
+is_newline b = eqb b newline
+
+place_by : (t : Bool) (k n : ℕ) → cond t 1 (suc (min (k + 1) n)) ≡ min (cond (not t) (1 + k) 0 + 1) (suc n)
+place_by true k n = omega arith
+place_by false k n = omega arith
+
+length_place : (bs : List ℕ) → line_length bs ≡ min (position_or_len is_newline bs + 1) (length bs)
 unfolding line_length
-length_from bs i t h e =
-    let cut : drop i bs ≡ get_or bs i 0 ∷ drop (i + 1) bs = rw add-one (drop-cons bs i 0 h) in
-    ap line_length cut ∙ simp e
+length_place [] = refl
+length_place (b ∷ bs) = ap (λ (k : ℕ). cond (eqb b newline) 1 (suc k)) (length_place bs) ∙ place_by (eqb b newline) (position_or_len is_newline bs) (length bs)
 
-pub length_ends : (bs : List ℕ) (i : ℕ) → i < length bs → eqb (get_or bs i 0) newline ≡ true → line_length (drop i bs) ≡ 1
-length_ends bs i h e = length_from bs i true h e
+found_by : (t : Bool) (k n i : ℕ) → ltb k n ≡ t → cond t (Some k) None ≡ Some i → (i + 1 ≡ min (k + 1) n) × (i < n)
+found_by true k n i e h = let same : k ≡ i = cc in let less = ltb-true k n e in (omega arith, omega arith)
+found_by false k n i e h = absurd (let z : ◌≡◌ {A = ℕ} 0 1 = cc in omega arith)
 
-pub length_goes_on : (bs : List ℕ) (i : ℕ) → i < length bs → eqb (get_or bs i 0) newline ≡ false → line_length (drop i bs) ≡ suc (line_length (drop (i + 1) bs))
-length_goes_on bs i h e = length_from bs i false h e
+whole_by : (t : Bool) (k n : ℕ) → ltb k n ≡ t → cond t (Some k) None ≡ None → n ≡ min (k + 1) n
+whole_by true k n e h = absurd (let z : ◌≡◌ {A = ℕ} 0 1 = cc in omega arith)
+whole_by false k n e h = let more = ltb-false k n e in omega arith
 
-pub length_over : (bs : List ℕ) (i : ℕ) → length bs ≤ i → line_length (drop i bs) ≡ 0
-unfolding line_length
-length_over bs i h = ap line_length (drop_of_length-le bs h)
+module _ (bs : List ℕ) (r : Option ℕ) (is : r ≡ position is_newline bs) where
+  pub length_found : (i : ℕ) → r ≡ Some i → i + 1 ≡ line_length bs
+  length_found i e = (found_by (ltb (position_or_len is_newline bs) (length bs)) _ _ i refl (sym is ∙ e)).0 ∙ sym (length_place bs)
+
+  pub found_inside : (i : ℕ) → r ≡ Some i → i < length bs
+  found_inside i e = (found_by (ltb (position_or_len is_newline bs) (length bs)) _ _ i refl (sym is ∙ e)).1
+
+  pub length_whole : r ≡ None → length bs ≡ line_length bs
+  length_whole e = whole_by (ltb (position_or_len is_newline bs) (length bs)) _ _ refl (sym is ∙ e) ∙ sym (length_place bs)
 
 -- its last byte
 last_byte : (b : ℕ) (bs : List ℕ) → eqb (get_or (b ∷ bs) (length bs) 0) newline ≡ ends_after b bs
@@ -263,33 +283,30 @@ pub none_ended : (bs : List ℕ) → length bs ≤ 0 → false ≡ ends_line bs
 none_ended [] h = refl
 none_ended (b ∷ bs) h = absurd (omega arith)
 
--- one more line of a piece, whose rest code has as a part of it
-module _ (piece : List ℕ) (at len : ℕ) (inside : at < length piece) (found : len ≡ line_length (take (length piece - at) (drop at piece))) where
-  abbrev rest : List ℕ
-  rest = take (length piece - at) (drop at piece)
+-- no line is left
+pub none_left : (rest : List ℕ) (f all : Feed) → eqb (length rest) 0 ≡ true → fed link_bits f rest ≡ all → f ≡ all
+unfolding fed
+none_left [] f all e h = h
+none_left (b ∷ rest) f all e h = absurd (true≢false (sym e ∙ ne_eqb (length (b ∷ rest)) 0 (λ z. omega arith)))
 
-  rest_is : rest ≡ drop at piece
-  rest_is = take_all (length piece - at) (drop at piece) (omega (arith, length-drop at piece))
+-- one more line of a piece: part is the first line of the rest, and after follows it
+module _ (rest part after : List ℕ) (n : ℕ) (is : n ≡ line_length rest) (some : eqb (length rest) 0 ≡ false) (front : part ≡ take n rest) (back : after ≡ drop n rest) where
+  pub line_one : line_length part ≡ length part
+  line_one = rw (front, is) (one_line rest)
 
-  pub line_counts : len ≡ length (take len rest)
-  line_counts = omega (arith, length-take len rest, line_within rest, found)
+  more : 0 < length rest
+  more = let h = eqb-false (length rest) 0 some in omega arith
 
-  pub line_one : line_length (take len rest) ≡ length (take len rest)
-  line_one = rw found (one_line rest)
+  pub line_there : length after < length rest
+  line_there = omega (arith, line_some rest more, line_within rest, is, ap (λ (l : List ℕ). length l) back, length-drop n rest)
 
-  pub line_there : 0 < len
-  line_there = omega (arith, line_some rest (omega (arith, length-take (length piece - at) (drop at piece), length-drop at piece)), found)
-
-  pub line_inside : at + len ≤ length piece
-  line_inside = omega (arith, line_within rest, found, length-take (length piece - at) (drop at piece), length-drop at piece)
-
-  module _ (f g all : Feed) (here : fed link_bits f (drop at piece) ≡ all) (line-fed : g ≡ fed link_bits f (take len rest)) where
-    pub next_line_lem : fed link_bits g (drop (at + len) piece) ≡ all
+  module _ (f g all : Feed) (here : fed link_bits f rest ≡ all) (line-fed : g ≡ fed link_bits f part) where
+    pub next_line_lem : fed link_bits g after ≡ all
     next_line_lem =
-        ap (λ (x : Feed). fed link_bits x (drop (at + len) piece)) (line-fed ∙ ap (λ (r : List ℕ). fed link_bits f (take len r)) rest_is)
-        ∙ sym (fed_append link_bits f (take len (drop at piece)) (drop (at + len) piece))
-        ∙ ap (λ (r : List ℕ). fed link_bits f (take len (drop at piece) ++ r)) (sym (drop-drop len at piece))
-        ∙ ap (fed link_bits f) (take-append-drop len (drop at piece))
+        ap (λ (x : Feed). fed link_bits x after) (line-fed ∙ ap (fed link_bits f) front)
+        ∙ ap (fed link_bits (fed link_bits f (take n rest))) back
+        ∙ sym (fed_append link_bits f (take n rest) (drop n rest))
+        ∙ ap (fed link_bits f) (take-append-drop n rest)
         ∙ here
 
 -- ---- the end
@@ -305,20 +322,20 @@ stopped_last r d [] = refl
 stopped_last r d (b ∷ l) = refl
 
 module _ (p : Position) (line due : List ℕ) (w : World) where
-  pub ends_agree : eqb p.stop 0 ≡ true → eqb p.line 0 ≡ true → eqb p.due 0 ≡ true → report 0 p.lines ≡ reports (feed_at p line due w)
+  pub ends_agree : p.stop ≡ 0 → p.line ≡ 0 → p.due ≡ 0 → report 0 p.lines ≡ reports (feed_at p line due w)
   unfolding feed_at player_at due_in lastly ends
-  ends_agree a b c = simp (a, eqb-true p.line 0 b, c)
+  ends_agree a b c = simp (a, b, c)
 
-  pub ends_due : eqb p.stop 0 ≡ true → eqb p.line 0 ≡ true → eqb p.due 0 ≡ false → report 1 (next_line p.lines) ≡ reports (feed_at p line due w)
+  pub ends_due : (k : ℕ) → k ≡ next_line p.lines → p.stop ≡ 0 → p.line ≡ 0 → p.due ≢ 0 → report 1 k ≡ reports (feed_at p line due w)
   unfolding feed_at player_at due_in lastly ends
-  ends_due a b c = simp (a, eqb-true p.line 0 b, c)
+  ends_due k e a b c = simp (e, a, b, ne_eqb p.due 0 c)
 
-  pub ends_torn : length line ≡ 64 → eqb p.stop 0 ≡ true → eqb p.line 0 ≡ false → report 22 (next_line p.lines) ≡ reports (feed_at p line due w)
+  pub ends_torn : (k : ℕ) → k ≡ next_line p.lines → length line ≡ 64 → p.stop ≡ 0 → p.line ≢ 0 → report 22 k ≡ reports (feed_at p line due w)
   unfolding feed_at player_at lastly
-  ends_torn size a b =
-      let some : 0 < length (take p.line line) = omega (arith, length-take p.line line, eqb-false p.line 0 b) in
-      simp a (torn _ (take p.line line) _ some (λ b t. refl))
+  ends_torn k e size a b =
+      let some : 0 < length (take p.line line) = omega (arith, length-take p.line line) in
+      simp (e, a) (torn _ (take p.line line) _ some (λ b t. refl))
 
-  pub ends_stopped : eqb p.stop 0 ≡ false → report p.stop (next_line p.lines) ≡ reports (feed_at p line due w)
+  pub ends_stopped : (k : ℕ) → k ≡ next_line p.lines → p.stop ≢ 0 → report p.stop k ≡ reports (feed_at p line due w)
   unfolding feed_at player_at
-  ends_stopped a = simp a (stopped_last _ _ _)
+  ends_stopped k e a = simp (e, ne_eqb p.stop 0 a) (stopped_last _ _ _)

@@ -2,7 +2,9 @@ pub mod DueLaws
 pub mod ResultLaws
 pub mod StepLaws
 pub mod CallLaws
+pub mod AccessLaws
 pub mod OpenLaws
+pub mod PositionLaws
 pub mod FeedLaws
 pub mod StartLaws
 pub mod LineLaws

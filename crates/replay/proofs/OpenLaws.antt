@@ -6,7 +6,6 @@ use mathlib.Core.Path.{◌≡◌, refl, ap, ◌∙◌, sym}
 use mathlib.Core.Bool.{true, false}
 use mathlib.Core.List.{List, []}
 use lib.ListN.{take}
-use lib.Dec.{eqb}
 use Rattle.word.specs.Word.{link_bits}
 use Rattle.machine.specs.declared.types.Side.{Side}
 use Rattle.machine.specs.Exec.{World}
@@ -17,14 +16,17 @@ use Rattle.access_log.specs.declared.read.Kind.{Kind}
 use Rattle.access_log.specs.declared.read.Kind.TheVariants as kind
 use Rattle.access_log.specs.Line.{LegalCall}
 use Rattle.access_log.specs.Text.{same}
-use Rattle.access_log.specs.Read.{guess, kind_of, call_in, read_line}
+use Rattle.access_log.specs.Read.{guess, kind_of, call_in}
 use Rattle.access_log.proofs.KindLaws.{call_told}
 use Rattle.access_log.proofs.LegalLaws.{call_in_legal}
-use Rattle.replay.specs.declared.player.Position.{Position}
-use Rattle.replay.specs.Replay.{begins}
-use Rattle.replay.specs.Player.{misses, met, made, opened, quick}
-use Rattle.replay.specs.State.{due_in, at, player_at}
-use Rattle.replay.proofs.DueLaws.{LinePut}
+use Rattle.std.specs.Prelude.{Option, Some, None, Err}
+use Rattle.replay.specs.declared.player.due.Due.{Due}
+use Rattle.replay.specs.declared.player.due.Stop.{Stop}
+use Rattle.replay.specs.declared.player.due.Stop.TheVariants.{NotOfTheForm}
+use Rattle.replay.specs.Replay.{playing, begins}
+use Rattle.replay.specs.Player.{met, made, opened, quick}
+use Rattle.replay.specs.State.{due_lines, after_line}
+use Rattle.replay.proofs.DueLaws.{Misses, LinePut}
 
 -- ---- a line where nothing is due, by what it would be
 
@@ -56,16 +58,13 @@ opened_access w k text s (line.PortAnswer t number port) e = other cc
 opened_access w k text s (line.Call c) e = other cc
 
 module _ (w : World) (k : ℕ) (text : List ℕ) (told : Kind) (is : told ≡ kind_of (guess text)) where
-  abbrev Misses : Position → Type 0
-  Misses r = (v : World) (bytes : List ℕ) → player_at r bytes v ≡ misses (take 0 bytes) k (read_line text)
-
-  pub open_header : told ≡ kind.Header → (r : Position) (due : List ℕ) → Misses r → player_at r due w ≡ opened link_bits w k text (guess text)
+  pub open_header : told ≡ kind.Header → (r : Stop) (due : List ℕ) → Misses r 0 text → after_line (Err r) k due w ≡ opened link_bits w k text (guess text)
   unfolding met
-  open_header t r due m = m w due ∙ sym (opened_header w k text (guess text) (sym is ∙ t))
+  open_header t r due m = m k due w ∙ sym (opened_header w k text (guess text) (sym is ∙ t))
 
-  pub open_answer : told ≡ kind.Answer → (r : Position) (due : List ℕ) → Misses r → player_at r due w ≡ opened link_bits w k text (guess text)
+  pub open_answer : told ≡ kind.Answer → (r : Stop) (due : List ℕ) → Misses r 0 text → after_line (Err r) k due w ≡ opened link_bits w k text (guess text)
   unfolding met
-  open_answer t r due m = m w due ∙ sym (opened_answer w k text (guess text) (sym is ∙ t))
+  open_answer t r due m = m k due w ∙ sym (opened_answer w k text (guess text) (sym is ∙ t))
 
   pub open_access : (x : Side) → told ≡ kind.Access x → made link_bits w k x text ≡ opened link_bits w k text (guess text)
   open_access x t = sym (opened_access w k text x (guess text) (sym is ∙ t))
@@ -80,21 +79,19 @@ module _ (w : World) (k : ℕ) (text : List ℕ) (c : LoggedCall) (is : c ≡ ca
   unfolding opened
   called h = simp (← is, ← put.is, h)
 
-  pub not_called : same (take len due) text ≡ false → (r : Position) → r ≡ at 0 0 k 22 → (bytes : List ℕ) (v : World) → player_at r bytes v ≡ opened link_bits w k text (line.Call (call_in text))
-  unfolding opened player_at
-  not_called h r e bytes v = simp (← is, ← put.is, h, e)
+  pub not_called : same (take len due) text ≡ false → (bytes : List ℕ) (v : World) → after_line (Err NotOfTheForm) k bytes v ≡ opened link_bits w k text (line.Call (call_in text))
+  unfolding opened after_line
+  not_called h bytes v = simp (← is, ← put.is, h)
 
 pub called_legal : (text : List ℕ) (c : LoggedCall) → c ≡ call_in text → LegalCall c
 called_legal text c e = rw e (call_in_legal text)
 
 -- ---- a line
 
-pub quick_open : (p : Position) (due : List ℕ) (w : World) (text : List ℕ) → eqb p.stop 0 ≡ true → eqb p.due 0 ≡ true →
-    opened link_bits w p.lines text (guess text) ≡ quick link_bits (player_at p due w) text
-unfolding player_at due_in quick
-quick_open p due w text e f = simp (e, f)
+pub quick_open : (w : World) (k : ℕ) (due text : List ℕ) (d : Option Due) → d ≡ None → opened link_bits w k text (guess text) ≡ quick link_bits (playing w (due_lines d due) k) text
+unfolding due_lines quick
+quick_open w k due text d e = simp e
 
-pub quick_meet : (p : Position) (due : List ℕ) (w : World) (text : List ℕ) → eqb p.stop 0 ≡ true → eqb p.due 0 ≡ false →
-    met w (due_in due p.due p.mask) p.lines text ≡ quick link_bits (player_at p due w) text
-unfolding player_at due_in quick
-quick_meet p due w text e f = simp (e, f)
+pub quick_meet : (w : World) (k : ℕ) (due text : List ℕ) (d : Option Due) (x : Due) → d ≡ Some x → met w (due_lines (Some x) due) k text ≡ quick link_bits (playing w (due_lines d due) k) text
+unfolding due_lines quick
+quick_meet w k due text d x e = simp e

@@ -7,7 +7,7 @@ use mathlib.Core.Bool.{Bool, true, false, cond, not, ◌||◌}
 use mathlib.Core.List.{List, ◌∷◌, ◌++◌}
 use mathlib.Core.Logic.{◌≢◌}
 use native.Mathlib.Omega.{arith}
-use lib.ListN.{length, take}
+use lib.ListN.{length}
 use lib.Dec.{ltb}
 use borrow.Author.Tests.{ltb-false}
 use Rattle.word.specs.declared.Port.{Port}
@@ -36,7 +36,6 @@ use Rattle.access_log.specs.declared.line.LoggedCall.{LoggedCall}
 use Rattle.access_log.specs.declared.line.LoggedCall.TheVariants as call
 use Rattle.access_log.specs.Line.{LegalCall, bytes_of}
 use Rattle.access_log.specs.Event.{access_line, line_of}
-use Rattle.access_log.specs.Read.{read_line}
 use Rattle.evtchn_fifo.specs.Numbers.{narrow}
 use Rattle.evtchn_fifo.specs.Encoded.{EncodedNext, Wrote, wrote, Carried, carried}
 use Rattle.evtchn_fifo.specs.DomainRecord.{domain_size, domain_at}
@@ -49,10 +48,13 @@ use Rattle.exported.specs.Run as run
 use Rattle.exported.specs.Run.{Bytes, world_of, SteppedBytes, stepped, guest_did, LongEnough, step_bytes, words_after, narrow_step}
 use Rattle.exported.specs.Demands.{Starts, Replies, wrote_by}
 use Rattle.exported.proofs.Runs.{step_is, due_is, guest_due_is}
-use Rattle.replay.specs.declared.player.Position.{Position}
+use Rattle.std.specs.Prelude.{Option, Result, Ok, Err}
+use Rattle.replay.specs.declared.player.due.Due.{Due}
+use Rattle.replay.specs.declared.player.due.Stop.{Stop}
 use Rattle.replay.specs.Replay.{Player, playing, next_line, step_of_call, adds, ran, due_after, begins}
-use Rattle.replay.specs.Player.{misses, met, made}
-use Rattle.replay.specs.State.{world_in, result_due, player_at}
+use Rattle.replay.specs.Player.{met, made}
+use Rattle.replay.specs.State.{world_in, due_lines, result_due, after_line}
+use Rattle.replay.proofs.DueLaws.{Misses}
 use Rattle.replay.proofs.ResultLaws.{request_due, guest_request_due, access_read, answer_read}
 
 pub some_bits : link_bits ≢ 0
@@ -156,21 +158,21 @@ module _ (d t g ws b : List ℕ) (domain-long : domain_size ≤ length d) (guest
       (ap (λ (s : Stepped). met s.world (due_after s.events) k text) (hypervisor_exec a e)
       ∙ ap (λ (ds : List (List ℕ)). met (world_of (run.perform_hypervisor link_bits lent (next.Access a)).bytes) (bytes_of (access_line side.Hypervisor a (performed (memory ws b) a).seen) ∷ ds) k text) (sym (request_due link_bits some_bits d domain-long (Replies (performed (memory ws b) a).seen t))))
 
-  pub hypervisor_made : (x : EncodedNext) (a : Access) (ws' b' : List ℕ) (seen : ℕ) (y : EncodedNext) (d' t' : List ℕ) (k : ℕ) (text : List ℕ) (r : Position) (due : List ℕ) →
+  pub hypervisor_made : (x : EncodedNext) (a : Access) (ws' b' : List ℕ) (seen : ℕ) (y : EncodedNext) (d' t' : List ℕ) (k : ℕ) (text : List ℕ) (r : Result (Option Due) Stop) (due : List ℕ) →
       x ≡ due_bytes link_bits d → ltb x.code 0x100 ≡ false → a ≡ decoded_access x → did (memory ws' b') seen ≡ performed (memory ws b) a → carried y d' t' ≡ reply_bytes link_bits d t seen →
-      ((w : World) → player_at r due w ≡ met w (bytes_of (access_line side.Hypervisor a seen) ∷ result_due side.Hypervisor y) k text) →
-      player_at r due (world_in d' t' g ws' b') ≡ made link_bits here k side.Hypervisor text
+      ((j : ℕ) (w : World) → after_line r j due w ≡ met w (bytes_of (access_line side.Hypervisor a seen) ∷ result_due side.Hypervisor y) j text) →
+      after_line r k due (world_in d' t' g ws' b') ≡ made link_bits here k side.Hypervisor text
   hypervisor_made x a ws' b' seen y d' t' k text r due e h f p c m =
-      m (world_in d' t' g ws' b')
+      m k (world_in d' t' g ws' b')
       ∙ ap (made_of k text a (did (memory ws' b') seen)) c
       ∙ ap (λ (q : Performed). made_of k text a q (reply_bytes link_bits d t q.seen)) p
       ∙ sym (hypervisor_met a (ap decoded_next (sym e) ∙ access_read x h ∙ ap next.Access (sym f)) k text)
 
-  pub hypervisor_idle : (x : EncodedNext) (k : ℕ) (text : List ℕ) (r : Position) (due : List ℕ) → x ≡ due_bytes link_bits d → ltb x.code 0x100 ≡ true →
-      ((w : World) (bytes : List ℕ) → player_at r bytes w ≡ misses (take 0 bytes) k (read_line text)) → player_at r due here ≡ made link_bits here k side.Hypervisor text
+  pub hypervisor_idle : (x : EncodedNext) (k : ℕ) (text : List ℕ) (r : Stop) (due : List ℕ) → x ≡ due_bytes link_bits d → ltb x.code 0x100 ≡ true →
+      Misses r 0 text → after_line (Err r) k due here ≡ made link_bits here k side.Hypervisor text
   unfolding made met
   hypervisor_idle x k text r due e h m =
-      m here due ∙ simp (domain_idle (domain_at d) (sym (due_is link_bits-width lent long) ∙ ap decoded_next (sym e) ∙ answer_read x h))
+      m k due here ∙ simp (domain_idle (domain_at d) (sym (due_is link_bits-width lent long) ∙ ap decoded_next (sym e) ∙ answer_read x h))
 
   abbrev served_of : ℕ → List ℕ → Access → Performed → Wrote → Player
   served_of k text a p c =
@@ -191,21 +193,21 @@ module _ (d t g ws b : List ℕ) (domain-long : domain_size ≤ length d) (guest
       (guest_line (guest_at g) a (performed (memory ws b) a).seen _
       ∙ ap (λ (ds : List (List ℕ)). bytes_of (access_line side.Guest a (performed (memory ws b) a).seen) ∷ ds) (sym (guest_request_due link_bits g guest-long (GuestReplies (performed (memory ws b) a).seen)))))
 
-  pub guest_made : (x : EncodedNext) (a : Access) (ws' b' : List ℕ) (seen : ℕ) (y : EncodedNext) (g' : List ℕ) (k : ℕ) (text : List ℕ) (r : Position) (due : List ℕ) →
+  pub guest_made : (x : EncodedNext) (a : Access) (ws' b' : List ℕ) (seen : ℕ) (y : EncodedNext) (g' : List ℕ) (k : ℕ) (text : List ℕ) (r : Result (Option Due) Stop) (due : List ℕ) →
       x ≡ guest_due_bytes link_bits g → ltb x.code 0x100 ≡ false → a ≡ decoded_access x → did (memory ws' b') seen ≡ performed (memory ws b) a → wrote y g' ≡ guest_reply_bytes link_bits g seen →
-      ((w : World) → player_at r due w ≡ met w (bytes_of (access_line side.Guest a seen) ∷ result_due side.Guest y) k text) →
-      player_at r due (world_in d t g' ws' b') ≡ made link_bits here k side.Guest text
+      ((j : ℕ) (w : World) → after_line r j due w ≡ met w (bytes_of (access_line side.Guest a seen) ∷ result_due side.Guest y) j text) →
+      after_line r k due (world_in d t g' ws' b') ≡ made link_bits here k side.Guest text
   guest_made x a ws' b' seen y g' k text r due e h f p c m =
-      m (world_in d t g' ws' b')
+      m k (world_in d t g' ws' b')
       ∙ ap (served_of k text a (did (memory ws' b') seen)) c
       ∙ ap (λ (q : Performed). served_of k text a q (guest_reply_bytes link_bits g q.seen)) p
       ∙ sym (guest_met a (ap decoded_next (sym e) ∙ access_read x h ∙ ap next.Access (sym f)) k text)
 
-  pub guest_rests : (x : EncodedNext) (k : ℕ) (text : List ℕ) (r : Position) (due : List ℕ) → x ≡ guest_due_bytes link_bits g → ltb x.code 0x100 ≡ true →
-      ((w : World) (bytes : List ℕ) → player_at r bytes w ≡ misses (take 0 bytes) k (read_line text)) → player_at r due here ≡ made link_bits here k side.Guest text
+  pub guest_rests : (x : EncodedNext) (k : ℕ) (text : List ℕ) (r : Stop) (due : List ℕ) → x ≡ guest_due_bytes link_bits g → ltb x.code 0x100 ≡ true →
+      Misses r 0 text → after_line (Err r) k due here ≡ made link_bits here k side.Guest text
   unfolding made met
   guest_rests x k text r due e h m =
-      m here due ∙ simp (guest_idle_lem (guest_at g) (sym (guest_due_is link_bits-width lent long) ∙ ap decoded_next (sym e) ∙ answer_read x h))
+      m k due here ∙ simp (guest_idle_lem (guest_at g) (sym (guest_due_is link_bits-width lent long) ∙ ap decoded_next (sym e) ∙ answer_read x h))
 
   -- ---- a call
 
@@ -218,32 +220,33 @@ module _ (d t g ws b : List ℕ) (domain-long : domain_size ≤ length d) (guest
   unfolding ran
   call_begins c k h e = simp e (ap (λ (s : Stepped). playing s.world (due_after s.events) (next_line k)) (call_exec c h))
 
-  pub hypervisor_began : (c : LoggedCall) (s : Start) (y : EncodedNext) (d' t' : List ℕ) (k : ℕ) (r : Position) (due : List ℕ) →
+  pub hypervisor_began : (c : LoggedCall) (s : Start) (y : EncodedNext) (d' t' : List ℕ) (k : ℕ) (r : Option Due) (due : List ℕ) →
       LegalCall c → adds link_bits (domain_at d) c ≡ false → step_of_call c ≡ step.Hypervisor s → words_after link_bits d ws s ≡ ws → carried y d' t' ≡ run.start_bytes link_bits d t s →
-      ((w : World) → player_at r due w ≡ playing w (result_due side.Hypervisor y) (next_line k)) → player_at r due (world_in d' t' g ws b) ≡ begins link_bits here k c
-  unfolding step_bytes
+      due_lines r due ≡ result_due side.Hypervisor y → after_line (Ok r) k due (world_in d' t' g ws b) ≡ begins link_bits here k c
+  unfolding step_bytes after_line
   hypervisor_began c s y d' t' k r due h e f w p m =
-      m (world_in d' t' g ws b)
+      ap (λ (ds : List (List ℕ)). playing (world_in d' t' g ws b) ds (next_line k)) m
       ∙ ap (λ (x : Carried). playing (world_in x.record_bytes x.ledger_bytes g ws b) (result_due side.Hypervisor x.next) (next_line k)) p
       ∙ ap (λ (ds : List (List ℕ)). playing (world_in (run.start_bytes link_bits d t s).record_bytes (run.start_bytes link_bits d t s).ledger_bytes g ws b) ds (next_line k)) (request_due link_bits some_bits d domain-long (Starts s t))
       ∙ ap (λ (v : List ℕ). playing (world_in (run.start_bytes link_bits d t s).record_bytes (run.start_bytes link_bits d t s).ledger_bytes g v b) (due_after (list_of (hypervisor_answer (decoded_next (run.start_bytes link_bits d t s).next)))) (next_line k)) (sym w)
       ∙ sym (call_begins c k h e ∙ ap (λ (x : Step). playing (world_of (step_bytes link_bits lent x).bytes) (due_after (step_bytes link_bits lent x).events) (next_line k)) f)
 
-  guest_began : (c : LoggedCall) (act : GuestAct) (y : EncodedNext) (g' : List ℕ) (k : ℕ) (r : Position) (due : List ℕ) →
+  guest_began : (c : LoggedCall) (act : GuestAct) (y : EncodedNext) (g' : List ℕ) (k : ℕ) (r : Option Due) (due : List ℕ) →
       LegalCall c → adds link_bits (domain_at d) c ≡ false → step_bytes link_bits lent (step_of_call c) ≡ guest_did lent (wrote_by link_bits g act) Nothing (memory ws b) → wrote y g' ≡ wrote_by link_bits g act →
-      ((w : World) → player_at r due w ≡ playing w (result_due side.Guest y) (next_line k)) → player_at r due (world_in d t g' ws b) ≡ begins link_bits here k c
+      due_lines r due ≡ result_due side.Guest y → after_line (Ok r) k due (world_in d t g' ws b) ≡ begins link_bits here k c
+  unfolding after_line
   guest_began c act y g' k r due h e f p m =
-      m (world_in d t g' ws b)
+      ap (λ (ds : List (List ℕ)). playing (world_in d t g' ws b) ds (next_line k)) m
       ∙ ap (λ (x : Wrote). playing (world_in d t x.record_bytes ws b) (result_due side.Guest x.next) (next_line k)) p
       ∙ ap (λ (ds : List (List ℕ)). playing (world_in d t (wrote_by link_bits g act).record_bytes ws b) ds (next_line k)) (guest_request_due link_bits g guest-long act)
       ∙ sym (call_begins c k h e ∙ ap (λ (s : SteppedBytes). playing (world_of s.bytes) (due_after s.events) (next_line k)) f)
 
-  pub service_began : (y : EncodedNext) (g' : List ℕ) (k : ℕ) (r : Position) (due : List ℕ) → wrote y g' ≡ service_bytes link_bits g →
-      ((w : World) → player_at r due w ≡ playing w (result_due side.Guest y) (next_line k)) → player_at r due (world_in d t g' ws b) ≡ begins link_bits here k call.Service
+  pub service_began : (y : EncodedNext) (g' : List ℕ) (k : ℕ) (r : Option Due) (due : List ℕ) → wrote y g' ≡ service_bytes link_bits g →
+      due_lines r due ≡ result_due side.Guest y → after_line (Ok r) k due (world_in d t g' ws b) ≡ begins link_bits here k call.Service
   unfolding step_bytes step_of_call adds LegalCall
   service_began y g' k r due p m = guest_began call.Service Serves y g' k r due tt refl refl p m
 
-  pub clear_began : (p : Port) → LegalCall (call.ClearMask p) → (y : EncodedNext) (g' : List ℕ) (k : ℕ) (r : Position) (due : List ℕ) → wrote y g' ≡ clear_mask_bytes link_bits g p.0 →
-      ((w : World) → player_at r due w ≡ playing w (result_due side.Guest y) (next_line k)) → player_at r due (world_in d t g' ws b) ≡ begins link_bits here k (call.ClearMask p)
+  pub clear_began : (p : Port) → LegalCall (call.ClearMask p) → (y : EncodedNext) (g' : List ℕ) (k : ℕ) (r : Option Due) (due : List ℕ) → wrote y g' ≡ clear_mask_bytes link_bits g p.0 →
+      due_lines r due ≡ result_due side.Guest y → after_line (Ok r) k due (world_in d t g' ws b) ≡ begins link_bits here k (call.ClearMask p)
   unfolding step_bytes step_of_call adds
   clear_began p h y g' k r due e m = guest_began (call.ClearMask p) (ClearsMask p) y g' k r due h refl refl e m

@@ -1,6 +1,7 @@
 -- What a position and the bytes lent to a replay mean: a player, as `Player.antt` has it.
 -- Assumes nothing.
-use Rattle.std.specs.Prelude.{ℕ, suc, Bool, false, cond, List, [], ◌∷◌, take, eqb, ltb}
+use Rattle.std.specs.Prelude.{ℕ, suc, Bool, false, cond, List, [], ◌∷◌, take, eqb, ltb, Option, Some, None, Result, Ok, Err}
+use Rattle.std.specs.Int.NonZero.{non_zero_usize_get}
 use Rattle.calls.specs.declared.answer.Code.{Code}
 use Rattle.machine.specs.declared.types.Side.{Side}
 use Rattle.machine.specs.declared.types.Side.TheVariants as side
@@ -10,8 +11,16 @@ use Rattle.access_log.specs.declared.line.Line.TheVariants as line
 use Rattle.access_log.specs.Line.{newline, bytes_of}
 use Rattle.access_log.specs.Event.{code_line}
 use Rattle.evtchn_fifo.specs.Encoded.{EncodedNext}
+use Rattle.exported.specs.Decoded.{decoded_access}
 use Rattle.exported.specs.Run.{world_of}
 use Rattle.replay.specs.declared.player.Position.{Position}
+use Rattle.replay.specs.declared.player.due.Due.{Due}
+use Rattle.replay.specs.declared.player.due.Stop.{Stop}
+use Rattle.replay.specs.declared.player.due.Stop.TheVariants.{Differs, NotOfTheForm, NotLent}
+use Rattle.replay.specs.declared.player.named.Named.{Named}
+use Rattle.replay.specs.declared.player.named.Named.TheVariants as named
+use Rattle.replay.specs.declared.player.progress.Playing.{Playing}
+use Rattle.replay.specs.declared.player.progress.Stopped.{Stopped}
 use Rattle.replay.specs.Replay.{Player, playing, stopped, report, next_line}
 use Rattle.replay.specs.Player.{Feed, feed}
 
@@ -28,6 +37,14 @@ answer_after mask = cond (eqb mask 0) [] (bytes_of (line.Answer side.Guest 0) �
 unfoldable pub due_in : List ℕ → ℕ → ℕ → List (List ℕ)
 due_in due len mask = cond (eqb len 0) [] (take len due ∷ answer_after mask)
 
+-- the same of code's own type
+abbrev pub then_answer : Bool → List (List ℕ)
+then_answer masks = cond masks (bytes_of (line.Answer side.Guest 0) ∷ []) []
+
+unfoldable pub due_lines : Option Due → List ℕ → List (List ℕ)
+due_lines None due = []
+due_lines (Some d) due = take (non_zero_usize_get d.len) due ∷ then_answer d.masks
+
 -- an answer by its numbers, and its line where a result is one
 abbrev pub code_in : EncodedNext → Code
 code_in x = record { number = x.code; value = x.index }
@@ -35,13 +52,32 @@ code_in x = record { number = x.code; value = x.index }
 unfoldable pub result_due : Side → EncodedNext → List (List ℕ)
 result_due s x = cond (ltb x.code 0x100) (bytes_of (code_line s (code_in x)) ∷ []) []
 
+-- what a result says
+abbrev pub named_in : EncodedNext → Named
+named_in x = cond (ltb x.code 0x100) (named.Answer (code_in x)) (named.Access (decoded_access x))
+
+-- ---- what a line leads to
+
+-- the kind of the report, and how many bytes of the line that was due are kept
+abbrev pub stop_kind : Stop → ℕ
+stop_kind (Differs due) = 1
+stop_kind NotOfTheForm = 22
+stop_kind NotLent = 33
+
+abbrev pub stop_due : Stop → ℕ
+stop_due (Differs due) = due
+stop_due NotOfTheForm = 0
+stop_due NotLent = 0
+
+abbrev pub stopped_by : Stop → ℕ → List ℕ → Player
+stopped_by s k due = stopped (report (stop_kind s) (next_line k)) (take (stop_due s) due)
+
+-- k lines before it agreed
+unfoldable pub after_line : Result (Option Due) Stop → ℕ → List ℕ → World → Player
+after_line (Ok d) k due w = playing w (due_lines d due) (next_line k)
+after_line (Err s) k due w = stopped_by s k due
+
 -- ---- positions
-
-abbrev pub at : ℕ → ℕ → ℕ → ℕ → Position
-at due mask k stop = record { lines = k; line = 0; due = due; mask = mask; stop = stop }
-
-abbrev pub at_line : Position → ℕ → Position
-at_line p line = record { lines = p.lines; line = line; due = p.due; mask = p.mask; stop = p.stop }
 
 -- stop is 0, or the kind of the report
 unfoldable pub player_at : Position → List ℕ → World → Player
@@ -51,6 +87,11 @@ player_at p due w =
 
 unfoldable pub feed_at : Position → List ℕ → List ℕ → World → Feed
 feed_at p line due w = feed (player_at p due w) (take p.line line)
+
+-- the same of code's own types
+unfoldable pub feed_of : Result Playing Stopped → List ℕ → List ℕ → World → Feed
+feed_of (Ok p) line due w = feed (playing w (due_lines p.due due) p.lines) (take p.line line)
+feed_of (Err p) line due w = feed (stopped_by p.stop p.lines due) (take p.line line)
 
 -- ---- lines of a piece
 

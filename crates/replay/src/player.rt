@@ -4,10 +4,12 @@ mod access;
 mod call;
 mod due;
 mod feed;
+mod lent;
 mod line;
 mod named;
+mod progress;
 
-ghost use Rattle.std.specs.Prelude.{◌≡◌, List, [], ℕ, length, replicate};
+ghost use Rattle.std.specs.Prelude.{◌≡◌, List, [], ℕ, length};
 ghost use Rattle.word.specs.Word.{link_bits};
 ghost use Rattle.machine.specs.Exec.{World};
 ghost use Rattle.evtchn_fifo.specs.Ledger.{entries};
@@ -15,18 +17,20 @@ ghost use Rattle.replay.specs.Replay.{starts};
 ghost use Rattle.replay.specs.Player.{feed, fed, reports};
 ghost use Rattle.replay.specs.State.{world_in, feed_at};
 
-use crate::player::due::next_line;
-use crate::player::feed::feed_on;
-use access_log::line::{Line, put_line};
+use crate::player::due::put_due;
+use crate::player::lent::Lent;
+use crate::player::progress::{Playing, next_line};
+use access_log::line::Line;
 use evtchn_fifo::guest::evtchn_fifo_bytes_fresh_guest;
 use evtchn_fifo::hypervisor::evtchn_fifo_bytes_fresh_domain;
 use evtchn_fifo::ledger::evtchn_fifo_bytes_fresh_ledger;
 
+// C's evtchn_replay_position, so kinds are numbers and lengths stand beside buffers; within, `Playing` and `Stopped` stand for it.
 // How many lines agreed; the length of the line that is being read, or of the one at which it stopped; the length of the line that is
 // due, 0 where none is; 1 where that is a mask's access, whose answer is due after it; 0, or the kind of the report at which it
 // stopped: 1, 22 or 33.
 #[repr(C)]
-#[derive(Clone, Copy)]
+#[derive(Clone, Copy, PartialEq, Eq, Debug)]
 pub struct Position {
     pub lines: u64,
     pub line: usize,
@@ -35,25 +39,16 @@ pub struct Position {
     pub stop: u32,
 }
 
-// 0: all agree, with the number of lines; else the kind with the line's number.
+// C's evtchn_replay_result, so the kind is a number. 0: all agree, with the number of lines; else the kind with the line's number.
 #[repr(C)]
-#[derive(Clone, Copy)]
+#[derive(Clone, Copy, PartialEq, Eq, Debug)]
 pub struct Report {
     pub kind: u32,
     pub line: u64,
 }
 
-fn zero(words: &mut [u32])
-    ensures { words.new ≡ replicate (length words.old) 0 }
-{
-    let mut i = 0;
-    while i < words.len() {
-        words[i] = 0;
-        i += 1;
-    }
-}
-
-// The start: all that is lent is made fresh, whatever it held, and the header is due.
+// The start: all that is lent is made fresh, whatever it held, and the header is due. Here and below the parameters are C's; within,
+// `Lent` stands for those that go together.
 pub fn evtchn_replay_bytes_start(
     domain: &mut [u8; 100],
     ledger: &mut [u8],
@@ -67,19 +62,17 @@ pub fn evtchn_replay_bytes_start(
     evtchn_fifo_bytes_fresh_domain(domain);
     evtchn_fifo_bytes_fresh_ledger(ledger);
     evtchn_fifo_bytes_fresh_guest(guest);
-    zero(words);
-    zero(block);
-    let header = put_line(due, Line::Header);
-    Position {
+    words.fill(0);
+    block.fill(0);
+    Position::from(Playing {
         lines: 0,
         line: 0,
-        due: header,
-        mask: 0,
-        stop: 0,
-    }
+        due: put_due(due, Line::Header, false),
+    })
 }
 
 // A piece of the log.
+#[tactic(auto, using(crate::proofs::FeedLaws::over_stays))]
 pub fn evtchn_replay_bytes_feed(
     position: Position,
     domain: &mut [u8; 100],
@@ -93,46 +86,49 @@ pub fn evtchn_replay_bytes_feed(
 ) -> Position
     ensures { feed_at result line.new due.new (world_in domain.new ledger.new guest.new words.new block.new) ≡ fed link_bits (feed_at position line.old due.old (world_in domain.old ledger.old guest.old words.old block.old)) text.now }
 {
-    let stop = position.stop;
-    let playing = stop == 0;
-    if playing {
-        return feed_on(
-            position, domain, ledger, guest, words, block, line, due, text,
-        );
+    let Some(playing) = position.playing() else {
+        return position;
+    };
+    let mut lent = Lent {
+        domain,
+        ledger,
+        guest,
+        words,
+        block,
+        due,
+    };
+    match lent.feed(playing, line, text) {
+        Ok(playing) => Position::from(playing),
+        Err(stopped) => Position::from(stopped),
     }
-    position
 }
 
 // The report, if the log ends here.
+#[tactic(auto, using(crate::proofs::FeedLaws::ends_agree, crate::proofs::FeedLaws::ends_due, crate::proofs::FeedLaws::ends_torn, crate::proofs::FeedLaws::ends_stopped))]
 pub fn evtchn_replay_bytes_report(position: Position) -> Report
     ensures { (line due : List ℕ) (w : World) → length line ≡ 64 → result ≡ reports (feed_at position line due w) }
 {
-    let lines = position.lines;
-    let stop = position.stop;
-    let after = next_line(lines);
-    let playing = stop == 0;
-    if playing {
-        let whole = position.line == 0;
-        if whole {
-            let none = position.due == 0;
-            if none {
-                return Report {
-                    kind: 0,
-                    line: lines,
-                };
-            }
-            return Report {
-                kind: 1,
-                line: after,
-            };
-        }
+    let after = next_line(position.lines);
+    if position.stop != 0 {
+        return Report {
+            kind: position.stop,
+            line: after,
+        };
+    }
+    if position.line != 0 {
         return Report {
             kind: 22,
             line: after,
         };
     }
+    if position.due != 0 {
+        return Report {
+            kind: 1,
+            line: after,
+        };
+    }
     Report {
-        kind: stop,
-        line: after,
+        kind: 0,
+        line: position.lines,
     }
 }

@@ -1,93 +1,99 @@
-// What is due, and the positions that a line leads to.
-ghost use Rattle.std.specs.Prelude.{◌≡◌, false, List, ℕ, length, take, eqb};
+// What is due, and what a line comes to that must be the one due.
+ghost use Rattle.std.specs.Prelude.{◌≡◌, List, ◌∷◌, ℕ, take, Some, Err};
 ghost use Rattle.machine.specs.Exec.{World};
+ghost use Rattle.access_log.specs.Line.{bytes_of};
 ghost use Rattle.access_log.specs.Read.{read_line};
 ghost use Rattle.evtchn_fifo.specs.Encoded.{unpacked};
-ghost use Rattle.replay.specs.Replay.{next_line};
 ghost use Rattle.replay.specs.Player.{misses, met};
-ghost use Rattle.replay.specs.State.{due_in, result_due, at, player_at};
+ghost use Rattle.replay.specs.State.{stop_kind, stop_due, then_answer, due_lines, result_due, after_line};
 
-use crate::player::Position;
-use crate::player::named::{code_in, is_answer};
+use crate::player::named::Named;
 use access_log::event::code_line;
 use access_log::line::{Line, put_line};
 use access_log::read::read_line;
 use access_log::text::starts_as;
 use evtchn_fifo::encoded::PackedNext;
 use machine::types::Side;
+use std::num::NonZeroUsize;
 
-// The number of lines with one more; a number that can't move further stays.
-pub(crate) fn next_line(lines: u64) -> u64
-    ensures { result ≡ next_line lines }
-{
-    let more = lines < 0xFFFFFFFFFFFFFFFF;
-    if more {
-        return lines + 1;
-    }
-    lines
+// The line that is due: its length in the host's buffer, and whether it is a mask's access, after which her answer DONE is due.
+#[derive(Clone, Copy, PartialEq, Eq, Debug)]
+pub(crate) struct Due {
+    pub(crate) len: NonZeroUsize,
+    pub(crate) masks: bool,
 }
 
-// The position after a line that agreed, with so many bytes due.
-pub(crate) fn playing(due: usize, mask: u32, lines: u64) -> Position
-    ensures { result ≡ at due mask lines 0 }
-{
-    Position {
-        lines: lines,
-        line: 0,
-        due: due,
-        mask: mask,
-        stop: 0,
+// Why a replay stops at a line. Of the line that was due so many bytes are in the host's buffer; 0, where none was.
+#[derive(Clone, Copy, PartialEq, Eq, Debug)]
+pub(crate) enum Stop {
+    Differs(usize),
+    NotOfTheForm,
+    NotLent,
+}
+
+impl Stop {
+    // Its number in C.
+    pub(crate) fn kind(self) -> u32
+        ensures { result ≡ stop_kind self }
+    {
+        match self {
+            Stop::Differs(_) => 1,
+            Stop::NotOfTheForm => 22,
+            Stop::NotLent => 33,
+        }
+    }
+
+    pub(crate) fn due(self) -> usize
+        ensures { result ≡ stop_due self }
+    {
+        match self {
+            Stop::Differs(due) => due,
+            _ => 0,
+        }
     }
 }
 
-pub(crate) fn stopped(due: usize, lines: u64, stop: u32) -> Position
-    ensures { result ≡ at due 0 lines stop }
+#[tactic(auto, using(crate::proofs::DueLaws::put_lem, crate::proofs::DueLaws::no_line))]
+pub(crate) fn put_due(buffer: &mut [u8; 64], line: Line, masks: bool) -> Option<Due>
+    ensures { due_lines result buffer.new ≡ bytes_of line ∷ then_answer masks }
 {
-    Position {
-        lines: lines,
-        line: 0,
-        due: due,
-        mask: 0,
-        stop: stop,
+    let len = NonZeroUsize::new(put_line(buffer, line))?;
+    Some(Due { len, masks })
+}
+
+// What a call's start or a reply came to: its answer's line is due, if it gave one.
+#[tactic(auto, using(crate::proofs::DueLaws::answer_due, crate::proofs::DueLaws::none_due))]
+pub(crate) fn put_answer(buffer: &mut [u8; 64], side: Side, next: PackedNext) -> Option<Due>
+    ensures { due_lines result buffer.new ≡ result_due side (unpacked next) }
+{
+    match Named::from(next) {
+        Named::Answer(code) => put_due(buffer, code_line(side, code), false),
+        Named::Access(_) => None,
     }
 }
 
 // The line is not the one that is due, which has so many bytes: it differs, or is not of the form.
-pub(crate) fn miss(due: usize, lines: u64, text: &[u8]) -> Position
-    ensures { (w : World) (bytes : List ℕ) → player_at result bytes w ≡ misses (take due bytes) lines (read_line text.now) }
+#[tactic(auto, using(crate::proofs::DueLaws::missed_line, crate::proofs::DueLaws::missed_form))]
+pub(crate) fn miss(due: usize, text: &[u8]) -> Stop
+    ensures { (k : ℕ) (bytes : List ℕ) (w : World) → after_line (Err result) k bytes w ≡ misses (take due bytes) k (read_line text.now) }
 {
     match read_line(text) {
-        Some(_) => stopped(due, lines, 1),
-        None => stopped(due, lines, 22),
+        Some(_) => Stop::Differs(due),
+        None => Stop::NotOfTheForm,
     }
-}
-
-// What a call's start or a reply came to: its answer's line is due, if it gave one.
-pub(crate) fn put_answer(due: &mut [u8], side: Side, next: PackedNext) -> usize
-    requires { length due.old ≡ 64 }
-    ensures { due_in due.new result 0 ≡ result_due side (unpacked next) }
-{
-    let answered = is_answer(next);
-    if answered {
-        let line = code_line(side, code_in(next));
-        return put_line(due, line);
-    }
-    0
 }
 
 // The line must be the one that is due.
-pub(crate) fn meet(due: &mut [u8], len: usize, mask: u32, lines: u64, text: &[u8]) -> Position
-    requires { (length due.old ≡ 64) × (eqb len 0 ≡ false) }
-    ensures { (w : World) → player_at result due.new w ≡ met w (due_in due.old len mask) lines text.now }
+#[tactic(auto, using(crate::proofs::DueLaws::meets_alone, crate::proofs::DueLaws::meets_masked, crate::proofs::DueLaws::meets_not))]
+pub(crate) fn meet(buffer: &mut [u8; 64], due: Due, text: &[u8]) -> Result<Option<Due>, Stop>
+    ensures { (k : ℕ) (w : World) → after_line result k buffer.new w ≡ met w (due_lines (Some due) buffer.old) k text.now }
 {
-    let meets = starts_as(due, len, text);
-    if meets {
-        let alone = mask == 0;
-        if alone {
-            return playing(0, 0, next_line(lines));
-        }
-        let answer = put_line(due, Line::Answer(Side::Guest, 0));
-        return playing(answer, 0, next_line(lines));
+    let len = due.len.get();
+    if !starts_as(buffer, len, text) {
+        return Err(miss(len, text));
     }
-    miss(len, lines, text)
+    if due.masks {
+        return Ok(put_due(buffer, Line::Answer(Side::Guest, 0), false));
+    }
+    Ok(None)
 }
