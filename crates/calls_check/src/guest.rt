@@ -1,122 +1,127 @@
 // The part of a test on a guest as a value, with what the last call or reply came to.
-mod expect;
-
-use crate::guest::expect::holds;
+use crate::outcome::{Outcome, access, answer, plain_answer, refusal};
+use crate::part;
+use crate::part::Part;
 use calls::types::{Answer, ClearCall, ClearStage, Guest, GuestOutcome, GuestStage, Next};
-use calls::{clear_mask, records};
-use script::{is, name, place, small, word};
+use calls::{clear_mask, guest, records};
+use script::{Script, is};
 use std::io;
 use std::io::BufRead;
 use word::{Port, Queue};
 
+#[derive(Drop)]
+struct GuestPart {
+    now: GuestOutcome,
+    kept: GuestOutcome,
+}
+
 fn made(guest: Guest) -> GuestOutcome {
     GuestOutcome {
-        guest: guest,
+        guest,
         next: Next::Answer(Answer::Done, 0),
     }
 }
 
 // A guest with her words, local ready bits and one head, which the script gives.
-fn fresh(input: &mut impl BufRead) -> io::Result<Guest> {
-    let words = small(input)?;
-    let ready = word(input)?;
-    let heads = records::with_queue([0; 16], Queue(small(input)?), small(input)?);
-    let call = records::guest_idle();
-    let clear = records::clear_idle();
+fn fresh(script: &mut Script<impl BufRead>) -> io::Result<Guest> {
+    let words = script.small()?;
+    let ready = script.hex()?;
+    let queue = Queue(script.small()?);
     Ok(Guest {
-        heads: heads,
-        ready: ready,
-        words: words,
-        call: call,
-        clear: clear,
+        heads: records::with_queue([0; 16], queue, script.small()?),
+        ready,
+        words,
+        ..records::fresh_guest()
     })
 }
 
 // A service at G2 is put under way: port, queue and count.
-fn at_g2(input: &mut impl BufRead, guest: Guest) -> io::Result<Guest> {
-    let heads = guest.heads;
-    let clear = guest.clear;
-    let call = records::guest_call_at(
-        GuestStage::G2,
-        Port(small(input)?),
-        Queue(small(input)?),
-        small(input)?,
-    );
+fn at_g2(script: &mut Script<impl BufRead>, guest: Guest) -> io::Result<Guest> {
+    let port = Port(script.small()?);
+    let queue = Queue(script.small()?);
     Ok(Guest {
-        heads: heads,
-        ready: guest.ready,
-        words: guest.words,
-        call: call,
-        clear: clear,
+        call: records::guest_call_at(GuestStage::G2, port, queue, script.small()?),
+        ..guest
     })
 }
 
-fn clear_stage(name: u64) -> ClearStage {
-    match place(name, b"read cas") {
-        1 => ClearStage::Read,
-        2 => ClearStage::Cas,
+// A clear_mask is put under way: its stage, port, word and count.
+fn clearing(script: &mut Script<impl BufRead>) -> io::Result<ClearCall> {
+    let stage = match script.name()?.as_slice() {
+        b"read" => ClearStage::Read,
+        b"cas" => ClearStage::Cas,
         _ => ClearStage::None,
+    };
+    let port = Port(script.small()?);
+    let word = script.hex()?;
+    Ok(records::clear_at(stage, port, word, script.small()?))
+}
+
+// Whether two guests have the same heads, local bits and calls under way.
+fn same(a: Guest, b: Guest) -> bool {
+    a == Guest {
+        words: a.words,
+        ..b
     }
 }
 
-// A clear_mask is put under way: its stage, port, word and count.
-fn clearing(input: &mut impl BufRead) -> io::Result<ClearCall> {
-    let stage = clear_stage(name(input)?);
-    Ok(records::clear_at(stage, Port(small(input)?), word(input)?, small(input)?))
+impl GuestPart {
+    // Whether what the script expects holds: `gave` ends a service, `cleared` a clear_mask, `told` may end neither, after `refused`
+    // nothing is changed.
+    fn holds(&self, script: &mut Script<impl BufRead>) -> io::Result<bool> {
+        let guest = self.now.guest;
+        let came = Outcome::from(self.now.next);
+        let waits = Outcome::from(clear_mask::guest_due(guest));
+        let kept = self.kept.guest;
+        let holds = match script.name()?.as_slice() {
+            b"names" => {
+                let access = access(script)?;
+                access == Some(came) && access == Some(waits)
+            }
+            b"gave" => came == answer(script)? && guest.call.stage == GuestStage::None,
+            b"cleared" => {
+                came == plain_answer(script)? && !records::is_clearing(guest.clear.stage)
+            }
+            b"told" => came == answer(script)?,
+            b"refused" => came == refusal(script)? && guest == kept,
+            b"head" => {
+                let queue = Queue(script.small()?);
+                records::at_queue(guest.heads, queue) == script.small()?
+            }
+            b"heads" => guest.heads == kept.heads,
+            b"local" => guest.ready == script.hex()?,
+            b"words" => guest.words == script.small()?,
+            b"same" => same(guest, kept),
+            _ => false,
+        };
+        Ok(holds)
+    }
 }
 
-// A command's number for `turn`; 0 for an unknown name.
-fn command(name: u64) -> u32 {
-    place(
-        name,
-        b"service clear_mask reply tell G2 clearing back guest",
-    )
-}
-
-fn turn(
-    input: &mut impl BufRead,
-    now: GuestOutcome,
-    kept: GuestOutcome,
-    command: u32,
-) -> io::Result<GuestOutcome> {
-    let guest = now.guest;
-    let outcome = match command {
-        1 => calls::guest::service(guest),
-        2 => clear_mask::clear_mask(guest, Port(small(input)?)),
-        3 => clear_mask::guest_reply(guest, word(input)?),
-        4 => calls::guest::tell(guest, small(input)?),
-        5 => made(at_g2(input, guest)?),
-        6 => made(clear_mask::with_clear(guest, clearing(input)?)),
-        7 => kept,
-        _ => made(fresh(input)?),
-    };
-    Ok(outcome)
+impl Part for GuestPart {
+    fn command<R: BufRead>(&mut self, script: &mut Script<R>, name: &[u8]) -> io::Result<bool> {
+        let guest = self.now.guest;
+        match name {
+            b">" => return self.holds(script),
+            b"keep" => self.kept = self.now,
+            b"back" => self.now = self.kept,
+            b"service" => self.now = guest::service(guest),
+            _ if is(name, b"clear_mask") => {
+                self.now = clear_mask::clear_mask(guest, Port(script.small()?));
+            }
+            b"reply" => self.now = clear_mask::guest_reply(guest, script.hex()?),
+            b"tell" => self.now = guest::tell(guest, script.small()?),
+            b"G2" => self.now = made(at_g2(script, guest)?),
+            b"clearing" => self.now = made(clear_mask::with_clear(guest, clearing(script)?)),
+            b"guest" => self.now = made(fresh(script)?),
+            _ => return Ok(false),
+        }
+        Ok(true)
+    }
 }
 
 // Whether all names up to `done` are known, and all that is expected holds.
-pub(crate) fn part(input: &mut impl BufRead) -> io::Result<bool> {
-    let mut now = made(fresh(input)?);
-    let mut kept = now;
-    let mut ok = true;
-    let mut name = script::name(input)?;
-    for _ in 0..1000 {
-        if is(name, b"done") {
-            break;
-        }
-        let command = command(name);
-        if is(name, b"keep") {
-            kept = now;
-        } else if is(name, b">") {
-            let expected = script::name(input)?;
-            if !holds(input, now, kept, expected)? {
-                ok = false;
-            }
-        } else if command == 0 {
-            ok = false;
-        } else {
-            now = turn(input, now, kept, command)?;
-        }
-        name = script::name(input)?;
-    }
-    Ok(ok)
+pub(crate) fn part(script: &mut Script<impl BufRead>) -> io::Result<bool> {
+    let now = made(fresh(script)?);
+    part::holds(script, &mut GuestPart { now, kept: now }, b"done")
 }

@@ -3,58 +3,81 @@
 // A5 (arbitrary records), and of document 02, T-05 (BUSY and clear_mask).
 #![tactic(auto)]
 
-mod compare;
 mod domain;
-mod expect;
 mod guest;
 mod ledger;
-mod numbers;
+mod outcome;
+mod part;
 mod record;
 mod state;
 
-use script::place;
+use script::Script;
 use std::io;
 use std::io::{BufRead, Write};
 
-fn test(input: &mut impl BufRead, out: &mut impl Write) -> io::Result<()> {
-    script::line(input, out, true)?;
-    if domain::test(input)? {
-        out.write_all(b" ok\n")
-    } else {
-        out.write_all(b" FAILED\n")
+// What the script had next.
+#[derive(Clone, Copy)]
+enum Item {
+    Test,
+    Remark,
+}
+
+// A script, and where its tests are reported.
+#[derive(Drop)]
+struct Tests<R, W> {
+    script: Script<R>,
+    out: W,
+}
+
+impl<R: BufRead, W: Write> Tests<R, W> {
+    fn test(&mut self) -> io::Result<()> {
+        self.out.write_all(self.script.line()?.as_slice())?;
+        let verdict = if domain::test(&mut self.script)? {
+            "ok"
+        } else {
+            "FAILED"
+        };
+        writeln!(self.out, " {verdict}")
     }
-}
 
-fn total(out: &mut impl Write, tests: u32) -> io::Result<()> {
-    writeln!(out, "{tests} tests")
-}
-
-// The script's next test or remark: 1, 2, or 0 where there is none.
-fn next(input: &mut impl BufRead, out: &mut impl Write) -> io::Result<u32> {
-    let kind = place(script::name(input)?, b"test #");
-    match kind {
-        1 => test(input, out)?,
-        2 => script::line(input, out, false)?,
-        _ => {}
-    }
-    Ok(kind)
-}
-
-fn run(input: &mut impl BufRead, out: &mut impl Write) -> io::Result<()> {
-    let mut tests = 0;
-    let mut kind = next(input, out)?;
-    for _ in 0..1000 {
-        if kind == 0 {
-            break;
+    // Runs the next test or passes over the next remark, if there is one.
+    fn next(&mut self) -> io::Result<Option<Item>> {
+        match self.script.name()?.as_slice() {
+            b"test" => {
+                self.test()?;
+                Ok(Some(Item::Test))
+            }
+            b"#" => {
+                self.script.line()?;
+                Ok(Some(Item::Remark))
+            }
+            _ => Ok(None),
         }
-        if kind == 1 {
-            tests = calls::records::one_more(tests);
-        }
-        kind = next(input, out)?;
     }
-    total(out, tests)
+
+    // A thousand tests and remarks are counted, and one more is run: a script may have no end.
+    fn run(&mut self) -> io::Result<()> {
+        let mut tests = 0u32;
+        let mut item = self.next()?;
+        for _ in 0..1000 {
+            match item {
+                Some(Item::Test) => tests = tests.saturating_add(1),
+                Some(Item::Remark) => {}
+                None => break,
+            }
+            item = self.next()?;
+        }
+        writeln!(self.out, "{tests} tests")
+    }
 }
 
 fn main(rt: HostRuntime) -> io::Result<()> {
-    run(&mut rt.reader(), &mut io::writer(&rt))
+    let mut tests = Tests {
+        script: Script {
+            input: rt.reader(),
+            alloc: rt.alloc(),
+        },
+        out: io::writer(&rt),
+    };
+    tests.run()
 }

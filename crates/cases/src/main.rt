@@ -3,48 +3,49 @@
 #![tactic(auto)]
 
 mod command;
-mod driver;
+mod log;
+mod world;
 
-use script::place;
+use crate::log::print_log;
+use script::Script;
 use std::io;
 use std::io::{BufRead, Write};
 
-fn log(input: &mut impl BufRead, out: &mut impl Write) -> io::Result<()> {
-    let mut ledger = [7u16; 2048];
-    let mut words = [0u32; 2048];
-    let mut block = [0u32; 18];
-    driver::print_log(input, out, &mut ledger, &mut words, &mut block)
+// A script, and where its logs are printed.
+#[derive(Drop)]
+struct Logs<R, W> {
+    script: Script<R>,
+    out: W,
 }
 
-// A log with a word and an entry for every port.
-fn large_log(input: &mut impl BufRead, out: &mut impl Write) -> io::Result<()> {
-    let mut ledger = [7u16; 131072];
-    let mut words = [0u32; 131072];
-    let mut block = [0u32; 18];
-    driver::print_log(input, out, &mut ledger, &mut words, &mut block)
-}
-
-// The script's next log or remark; whether there was one.
-fn next(input: &mut impl BufRead, out: &mut impl Write) -> io::Result<bool> {
-    let place = place(script::name(input)?, b"log large #");
-    match place {
-        1 => log(input, out)?,
-        2 => large_log(input, out)?,
-        3 => script::line(input, out, false)?,
-        _ => {}
+impl<R: BufRead, W: Write> Logs<R, W> {
+    // The script's next log or remark; whether there was one. A large log has a word and an entry for every port.
+    fn next(&mut self) -> io::Result<bool> {
+        match self.script.name()?.as_slice() {
+            b"log" => print_log(&mut self.script, &mut self.out, 2048)?,
+            b"large" => print_log(&mut self.script, &mut self.out, 131072)?,
+            b"#" => {
+                self.script.line()?;
+            }
+            _ => return Ok(false),
+        }
+        Ok(true)
     }
-    Ok(place != 0)
 }
 
-fn run(input: &mut impl BufRead, out: &mut impl Write) -> io::Result<()> {
+fn main(rt: HostRuntime) -> io::Result<()> {
+    let mut logs = Logs {
+        script: Script {
+            input: rt.reader(),
+            alloc: rt.alloc(),
+        },
+        out: io::writer(&rt),
+    };
+    // A thousand logs and remarks at most: a script may have no end.
     for _ in 0..1000 {
-        if !next(input, out)? {
+        if !logs.next()? {
             break;
         }
     }
     Ok(())
-}
-
-fn main(rt: HostRuntime) -> io::Result<()> {
-    run(&mut rt.reader(), &mut io::writer(&rt))
 }

@@ -1,92 +1,68 @@
 // The report as text.
-use replay::player::{Position, evtchn_replay_bytes_report};
+use crate::player::Player;
 use std::io;
 
 // A byte as it is shown: a tab or a printable one as it is, any other as a question mark.
 fn shown(byte: u8) -> u8 {
-    if byte == b'\t' {
-        return byte;
+    match byte {
+        b'\t' | b' '..=b'~' => byte,
+        _ => b'?',
     }
-    if byte < 32 {
-        return b'?';
-    }
-    if byte > 126 {
-        return b'?';
-    }
-    byte
 }
 
-// The first len bytes of a text, without its newline; a word in brackets where it is empty.
-fn print_text(rt: &impl Print, bytes: &[u8; 64], len: usize, none: &[u8]) -> io::Result<()> {
+// The first len bytes of a text, without its newline; a word in brackets where it is empty. C's evtchn_replay_position has the
+// lengths, so that a text stays an array with a length beside it.
+fn print_text(
+    rt: &(impl Print + AllocGlobal),
+    bytes: &[u8; 64],
+    len: usize,
+    none: &[u8],
+) -> io::Result<()> {
     if len == 0 {
         return rt.write_all(none);
     }
-    let mut text = [0u8; 64];
-    let mut n = 0;
-    for i in 0..64 {
-        if i < len {
-            let byte = bytes[i];
-            if byte != b'\n' {
-                text[n] = shown(byte);
-                n += 1;
-            }
-        }
-    }
-    rt.write_all(&text[..n])
+    let text: Vec<u8> = bytes
+        .iter()
+        .copied()
+        .take(len)
+        .filter(|byte| *byte != b'\n')
+        .map(shown)
+        .collect(rt.alloc())?;
+    rt.write_all(text.as_slice())
 }
 
-fn print_difference(
-    rt: &impl Print,
-    position: Position,
-    line: &[u8; 64],
-    due: &[u8; 64],
-) -> io::Result<()> {
+fn print_difference(rt: &(impl Print + AllocGlobal), player: &Player) -> io::Result<()> {
     rt.write_all(b"the log has: ")?;
-    print_text(rt, line, position.line, b"(the log ends)")?;
+    print_text(rt, &player.line, player.position.line, b"(the log ends)")?;
     rt.write_all(b"\nwhat was due: ")?;
-    print_text(rt, due, position.due, b"(nothing)")?;
+    print_text(rt, &player.due, player.position.due, b"(nothing)")?;
     rt.write_all(b"\n")
 }
 
-// A counter of lines, where one is shown: in one turn of 128, over the last one.
-pub(crate) fn count(rt: &impl Eprint, shown: bool, turns: u64, lines: u64) -> io::Result<()> {
-    if shown && turns % 128 == 0 {
-        eprint!(rt; "\r{lines} lines")?;
-    }
-    Ok(())
+// A counter of lines, over the last one.
+pub(crate) fn count(rt: &impl Eprint, lines: u64) -> io::Result<()> {
+    eprint!(rt; "\r{lines} lines")
 }
 
-pub(crate) fn end_count(rt: &impl Eprint, shown: bool) -> io::Result<()> {
-    if shown {
-        eprint!(rt; "\r                          \r")?;
-    }
-    Ok(())
+pub(crate) fn end_count(rt: &impl Eprint) -> io::Result<()> {
+    eprint!(rt; "\r                          \r")
 }
 
-fn print_line(rt: &impl Print, number: u64, what: &str) -> io::Result<()> {
-    println!(rt; "line {number}{what}")
-}
-
-pub(crate) fn report(
-    rt: &impl Print,
-    position: Position,
-    line: &[u8; 64],
-    due: &[u8; 64],
-) -> io::Result<()> {
-    let result = evtchn_replay_bytes_report(position);
-    let kind = result.kind;
-    let number = result.line;
-    match kind {
-        0 => println!(rt; "all agree, {number} lines"),
+pub(crate) fn report(rt: &(impl Print + AllocGlobal), player: &Player) -> io::Result<()> {
+    // The kinds are those of C's evtchn_replay_result.
+    let report = player.report();
+    let line = report.line;
+    match report.kind {
+        0 => println!(rt; "all agree, {line} lines"),
         1 => {
-            print_line(rt, number, " differs")?;
-            print_difference(rt, position, line, due)
+            println!(rt; "line {line} differs")?;
+            print_difference(rt, player)
         }
-        22 => print_line(rt, number, ": refused with 22 (not a line of the form)"),
-        _ => print_line(
-            rt,
-            number,
-            ": refused with 33 (an expand would add a page past those lent)",
-        ),
+        22 => println!(rt; "line {line}: refused with 22 (not a line of the form)"),
+        _ => {
+            println!(rt;
+                "line {line}: refused with 33 (an expand would add a page past those lent)"
+            )
+        }
     }
 }

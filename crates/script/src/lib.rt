@@ -1,215 +1,184 @@
 // A script on standard input, or from another reader: words with blanks or line ends between them. No contract can say what is read.
 #![tactic(auto)]
 
-ghost use Rattle.std.specs.Prelude.{◌≡◌, ◌==◌};
-ghost use Rattle.script.specs.Names.{with_letter, ends_name, letters_after, place_after, place_of};
+ghost use Rattle.std.specs.Prelude.{◌≡◌, ◌↔◌, IsTrue};
+ghost use Rattle.script.specs.Names.{name_of, same_name, place_of};
 
+use std::alloc::Global;
 use std::io;
-use std::io::{BufRead, Write};
+use std::io::BufRead;
 
-// A word: its last eight letters as one number, its name; its digits as a decimal and as a hexadecimal number.
-#[derive(Clone, Copy)]
-struct Scanned {
-    name: u64,
-    decimal: u64,
-    hex: u64,
+// A script that is read from `input`. Any byte below a blank ends a word or a line, and their lengths are bounded: std's `split` and
+// `lines` know one end and no bound.
+#[derive(Drop)]
+pub struct Script<R> {
+    pub input: R,
+    pub alloc: Global,
 }
 
-// The next byte; 0 where the script ends.
-fn next_byte(input: &mut impl BufRead) -> io::Result<u8> {
-    let ahead = input.fill_buf()?;
-    let Some(byte) = ahead.first().copied() else {
-        return Ok(0);
-    };
-    input.consume(1);
-    Ok(byte)
-}
+impl<R: BufRead> Script<R> {
+    // The next byte; none where the script ends.
+    fn byte(&mut self) -> io::Result<Option<u8>> {
+        let byte = self.input.fill_buf()?.first().copied();
+        if byte.is_some() {
+            self.input.consume(1);
+        }
+        Ok(byte)
+    }
 
-fn is_blank(byte: u8) -> bool {
-    byte == b' ' || byte == b'\n'
-}
+    // The first byte that is no blank; after 65,536 blanks the next one, whatever it is: a script may have no end.
+    fn first_byte(&mut self) -> io::Result<Option<u8>> {
+        for _ in 0..65536 {
+            let byte = self.byte()?;
+            if !matches!(byte, Some(b' ' | b'\n')) {
+                return Ok(byte);
+            }
+        }
+        self.byte()
+    }
 
-fn is_letter(byte: u8) -> bool {
-    byte > b' '
-}
+    // The next word, with no letters where the script ends. It has at most 256: of a longer one the next letter is passed over, and
+    // what follows is a word of its own.
+    fn word(&mut self) -> io::Result<Vec<u8>> {
+        let mut letters = Vec::new(self.alloc);
+        let mut byte = self.first_byte()?;
+        for _ in 0..256 {
+            let Some(letter) = byte.filter(|byte| *byte > b' ') else {
+                break;
+            };
+            letters.push(letter)?;
+            byte = self.byte()?;
+        }
+        Ok(letters)
+    }
 
-fn wide(byte: u8) -> u64
-    ensures { result ≡ byte }
-{
-    byte as u64
+    // The letters by which the next word is known, its last eight.
+    pub fn name(&mut self) -> io::Result<Vec<u8>> {
+        let word = self.word()?;
+        Ok(name_of(word.as_slice()).to_vec(self.alloc)?)
+    }
+
+    // A decimal number.
+    pub fn number(&mut self) -> io::Result<u64> {
+        Ok(decimal(self.word()?.as_slice()))
+    }
+
+    // A decimal number modulo 2^32.
+    pub fn small(&mut self) -> io::Result<u32> {
+        Ok((self.number()? % 0x1_0000_0000) as u32)
+    }
+
+    // A hexadecimal number modulo 2^32.
+    pub fn hex(&mut self) -> io::Result<u32> {
+        Ok(hexadecimal(self.word()?.as_slice()))
+    }
+
+    // The rest of a line, without its end; of a longer one 65,536 bytes.
+    pub fn line(&mut self) -> io::Result<Vec<u8>> {
+        let mut text = Vec::new(self.alloc);
+        for _ in 0..65536 {
+            let Some(byte) = self.byte()?.filter(|byte| *byte >= b' ') else {
+                break;
+            };
+            text.push(byte)?;
+        }
+        Ok(text)
+    }
 }
 
 // The value of a digit, in either base; 0 where a byte is none.
-fn digit(byte: u8) -> u64 {
-    if byte < b'0' {
-        return 0;
+fn digit(byte: u8) -> u8 {
+    match byte {
+        b'0'..=b'9' => byte - b'0',
+        b'A'..=b'F' => byte - b'A' + 10,
+        _ => 0,
     }
-    if byte <= b'9' {
-        return wide(byte - b'0');
-    }
-    if byte < b'A' {
-        return 0;
-    }
-    if byte <= b'F' {
-        return wide(byte - b'A' + 10);
-    }
-    0
 }
 
-// A name with one letter more; the last eight count.
-fn with_letter(name: u64, byte: u8) -> u64
-    ensures { result ≡ with_letter name byte }
+// The number that a word's digits make, of its last nineteen.
+fn decimal(word: &[u8]) -> u64 {
+    word.iter().fold(0, |value, byte| {
+        value % 1_000_000_000_000_000_000 * 10 + u64::from(digit(*byte))
+    })
+}
+
+// The number that a word's digits make, of its last eight.
+fn hexadecimal(word: &[u8]) -> u32 {
+    word.iter()
+        .fold(0, |value, byte| value << 4 | u32::from(digit(*byte)))
+}
+
+// The letters by which a word is known: its last eight.
+fn name_of(word: &[u8]) -> &[u8]
+    ensures { result.now ≡ name_of word.now }
 {
-    name << 8 | wide(byte)
+    &word[word.len().saturating_sub(8)..]
 }
 
-fn with_byte(token: Scanned, byte: u8) -> Scanned {
-    let value = digit(byte);
-    let tens = token.decimal % 1_000_000_000_000_000_000 * 10;
-    Scanned {
-        name: with_letter(token.name, byte),
-        decimal: tens.wrapping_add(value),
-        hex: token.hex << 4 | value,
-    }
-}
-
-// The first byte that is no blank.
-fn first_byte(input: &mut impl BufRead) -> io::Result<u8> {
-    let mut byte = next_byte(input)?;
-    for _ in 0..65536 {
-        if !is_blank(byte) {
-            break;
-        }
-        byte = next_byte(input)?;
-    }
-    Ok(byte)
-}
-
-// The next word; none of its letters where the script ends.
-fn token(input: &mut impl BufRead) -> io::Result<Scanned> {
-    let mut byte = first_byte(input)?;
-    let mut token = Scanned {
-        name: 0,
-        decimal: 0,
-        hex: 0,
-    };
-    for _ in 0..256 {
-        if !is_letter(byte) {
-            break;
-        }
-        token = with_byte(token, byte);
-        byte = next_byte(input)?;
-    }
-    Ok(token)
-}
-
-pub fn name(input: &mut impl BufRead) -> io::Result<u64> {
-    let read = token(input)?;
-    Ok(read.name)
-}
-
-// A decimal number.
-pub fn number(input: &mut impl BufRead) -> io::Result<u64> {
-    let read = token(input)?;
-    Ok(read.decimal)
-}
-
-// A decimal number modulo 2^32.
-pub fn small(input: &mut impl BufRead) -> io::Result<u32> {
-    let value = number(input)?;
-    Ok(low(value))
-}
-
-// A hexadecimal number modulo 2^32.
-pub fn word(input: &mut impl BufRead) -> io::Result<u32> {
-    let read = token(input)?;
-    Ok(low(read.hex))
-}
-
-fn low(value: u64) -> u32 {
-    (value % 0x1_0000_0000) as u32
-}
-
-// Whether a byte of a list ends the name that is looked for.
-fn ends_name(name: u64, letters: u64, byte: u8) -> bool
-    ensures { result ≡ ends_name name letters byte }
+// Whether two words are known by the same letters.
+fn same_name(a: &[u8], b: &[u8]) -> bool
+    ensures { result ≡ same_name a.now b.now }
 {
-    let ends = byte == b' ';
-    if ends {
-        return letters == name;
-    }
-    false
+    name_of(a) == name_of(b)
 }
 
-// The letters of a name after a byte of its list.
-fn letters_after(letters: u64, byte: u8) -> u64
-    ensures { result ≡ letters_after letters byte }
+// The place of a word in a list of names with a blank between them: 1 for the first, none for a word that it lacks.
+pub fn place(word: &[u8], list: &[u8]) -> Option<usize>
+    ensures { result ≡ place_of word.now list.now }
 {
-    let ends = byte == b' ';
-    if ends {
-        return 0;
-    }
-    with_letter(letters, byte)
+    list.split(|byte| *byte == b' ')
+        .position(|name| same_name(name, word))
+        .map(|at| at + 1)
 }
 
-// The place of a name after a byte of its list.
-fn place_after(at: u32, byte: u8) -> u32
-    ensures { result ≡ place_after at byte }
+// Whether a word is known by the same letters as a name.
+pub fn is(word: &[u8], name: &[u8]) -> bool
+    ensures { IsTrue result ↔ (place_of word.now name.now ≡ Some 1) }
 {
-    let ends = byte == b' ';
-    if ends {
-        return at.wrapping_add(1);
-    }
-    at
+    place(word, name) == Some(1)
 }
 
-// The place of a name in a list of names with a blank between them: 1 for the first, 0 for a name that it lacks.
-pub fn place(name: u64, list: &[u8]) -> u32
-    ensures { result ≡ place_of name list.now }
-{
-    let mut at = 1;
-    let mut letters = 0;
-    let mut i = 0;
-    while i < list.len() {
-        let byte = list[i];
-        let found = ends_name(name, letters, byte);
-        if found {
-            return at;
-        }
-        at = place_after(at, byte);
-        letters = letters_after(letters, byte);
-        i += 1;
-    }
-    let last = letters == name;
-    if last {
-        return at;
-    }
-    0
-}
+#[cfg(test)]
+mod tests {
+    use super::*;
+    use std::test::Fail;
 
-// Whether a name is some text.
-pub fn is(name: u64, text: &[u8]) -> bool
-    ensures { result ≡ (place_of name text.now == 1) }
-{
-    place(name, text) == 1
-}
-
-// Copies a byte to the output; whether it ends no line.
-fn copy_byte(input: &mut impl BufRead, out: &mut impl Write, print: bool) -> io::Result<bool> {
-    let byte = next_byte(input)?;
-    let inside = byte >= b' ';
-    if inside && print {
-        out.write_all(&[byte])?;
+    #[test]
+    fn reads_words(rt: HostRuntime) -> Result<(), Fail> {
+        let mut script = Script {
+            input: b"log C 1\ttitle\n  raise\n clear_mask 12A 99999999999999999999 4294967301 1FFFFFFFE 1x2".as_slice(),
+            alloc: rt.alloc(),
+        };
+        assert_eq!(rt; script.name()?.as_slice(), b"log".as_slice());
+        assert_eq!(rt; script.line()?.as_slice(), b"C 1".as_slice());
+        assert_eq!(rt; script.name()?.as_slice(), b"title".as_slice());
+        assert_eq!(rt; script.name()?.as_slice(), b"raise".as_slice());
+        assert_eq!(rt; script.name()?.as_slice(), b"ear_mask".as_slice());
+        assert_eq!(rt; script.number()?, 130, "a letter has its hexadecimal value");
+        assert_eq!(rt;
+            script.number()?,
+            9_999_999_999_999_999_999,
+            "the last nineteen digits"
+        );
+        assert_eq!(rt; script.small()?, 5);
+        assert_eq!(rt; script.hex()?, 0xFFFF_FFFE);
+        assert_eq!(rt; script.number()?, 102, "another byte is a 0");
+        assert_eq!(rt;
+            script.name()?.as_slice(),
+            b"".as_slice(),
+            "the script's end"
+        );
+        assert_eq!(rt; script.number()?, 0, "the script's end");
+        Ok(())
     }
-    Ok(inside)
-}
 
-// The rest of a line, printed or not, without its line end.
-pub fn line(input: &mut impl BufRead, out: &mut impl Write, print: bool) -> io::Result<()> {
-    for _ in 0..65536 {
-        if !copy_byte(input, out, print)? {
-            break;
-        }
+    #[test]
+    fn finds_names(rt: HostRuntime) {
+        assert_eq!(rt; place(b"bind", b"bind close clear_mask"), Some(1));
+        assert_eq!(rt; place(b"close", b"bind close clear_mask"), Some(2));
+        assert_eq!(rt; place(b"ear_mask", b"bind close clear_mask"), Some(3));
+        assert_eq!(rt; place(b"clos", b"bind close clear_mask"), None);
+        assert!(rt; is(b"ear_mask", b"clear_mask"));
+        assert!(rt; !is(b"mask", b"clear_mask"));
     }
-    Ok(())
 }

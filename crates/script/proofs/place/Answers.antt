@@ -1,20 +1,17 @@
--- `script::place` meets its contract: what is left of the list decides. Assumes nothing.
-use Rattle.std.proofs.Common.{◌∙◌, sym, arith, eq-eqb, ne_eqb}
-use Rattle.script.proofs.PlaceLaws.{place_found, place_goes_on, place_last}
+-- `script::place`: what the parts of the list give the search. Assumes nothing.
+use Rattle.std.proofs.Common.{rules, tests, ◌≡◌, ◌+◌, ◌∙◌, ap}
+use Rattle.std.specs.List.{position, slice_split}
+use Rattle.std.specs.Option.{option_map}
+use Rattle.std.proofs.lemmas.Iterator.Search.{position_from_yields_List}
+use Rattle.std.proofs.lemmas.Iterator.Splits.{YieldsList-from_slice_split}
+use Rattle.script.specs.Names.{is_blank, same_name}
 use Rattle.script.proofs.place.Goals as goal
 
-pub returns-then-found : goal.returns-then-found
-returns-then-found c = place_found _ _ _ c.args.list.now c.loop-i.i c.loop-i.invariant.1 (omega arith) (sym c.ends_name-found.ensures ∙ c.if-found.true)
-
-pub loop-i-preserved : goal.loop-i-preserved
-loop-i-preserved c = (
-  omega arith,
-  rw (c.place_after-at.ensures, c.letters_after-letters.ensures)
-      (place_goes_on _ _ _ c.args.list.now c.loop-i.i c.loop-i.invariant.1 (omega arith) (sym c.ends_name-found.ensures ∙ c.if-found.false)),
-)
-
-pub returns-then-last : goal.returns-then-last
-returns-then-last c = simp (eq-eqb c.loop-i.letters c.args.name c.if-last.true) at (place_last _ _ _ c.args.list.now c.loop-i.i c.loop-i.invariant.1 (omega arith))
-
 pub returns : goal.returns
-returns c = simp (ne_eqb c.loop-i.letters c.args.name c.if-last.false) at (place_last _ _ _ c.args.list.now c.loop-i.i c.loop-i.invariant.1 (omega arith))
+returns c =
+    let found : c.position.result ≡ position (λ name. same_name name c.args.word.now) (slice_split is_blank c.args.list.now) =
+    position_from_yields_List (λ name. same_name name c.args.word.now) _ _ _ c.position.ensures.ran
+    (YieldsList-from_slice_split _ is_blank c.args.list.now c.split.ensures.rest c.split.ensures.done c.split.ensures.closure (λ x b q k. search (rules, tests)))
+    (λ x b q k. search (rules, tests)) in
+    let mapped : c.map.result ≡ option_map (λ at. at + 1) c.position.result = search rules in
+    mapped ∙ ap (λ at. option_map (λ n. n + 1) at) found
