@@ -13,10 +13,8 @@ use lib.ListN.{length, get_or, set, replicate, length-replicate, get_or-replicat
 use lib.Seq.{ext_get_or, set_out}
 use lib.Dec.{ltb}
 use Rattle.calls.specs.Records.{entry_at}
-use Rattle.word.specs.Entry.{fresh_entry}
 use Rattle.evtchn_fifo.specs.Numbers.{number_at, put_number, numbers_at}
-use Rattle.evtchn_fifo.specs.Ledger.{entries, ledger_at, entry_in, put_entry, fill_entries, fresh_ledger_bytes}
-use Rattle.evtchn_fifo.specs.Encoded.{freshened}
+use Rattle.evtchn_fifo.specs.Ledger.{entries, ledger_at, entry_in, put_entry, fill_entries}
 use Rattle.evtchn_fifo.proofs.NumberLaws.{length_put, same, before, numbers_length, number_in_lem, number_set}
 
 -- an entry's place

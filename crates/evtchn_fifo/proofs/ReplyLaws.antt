@@ -33,7 +33,7 @@ use Rattle.evtchn_fifo.specs.Encoded.{EncodedNext, Wrote, wrote, carried, encode
 use Rattle.evtchn_fifo.specs.Ledger.{entries, entry_in, put_entry}
 use Rattle.evtchn_fifo.specs.DomainRecord.{domain_size, owner_code, owner_of, owner_at, call_at, view_at, tail_at, put_next, put_call, put_tail}
 use Rattle.evtchn_fifo.specs.Hypervisor.{next_at, move_at, move_bytes}
-use Rattle.evtchn_fifo.specs.InPlace.{replied, has_ended, in_place, to_r3, to_r5, from_r2}
+use Rattle.evtchn_fifo.specs.InPlace.{replied, has_ended, in_place, r3_in_place, r5_in_place, after_r2_in_place}
 use Rattle.evtchn_fifo.proofs.NumberLaws.{put_same_from, value_other, value_after, byte_after}
 use Rattle.evtchn_fifo.proofs.UnderWayLaws.{owner_is}
 use Rattle.evtchn_fifo.proofs.DomainLaws.{next_kept, call_apart}
@@ -157,9 +157,9 @@ in_place_is : (n : ℕ) (r : List ℕ) (e seen : ℕ) → Bytes r → is_free (c
 unfolding staged
 in_place_is n r e seen h f = in_place_by n r (move_at r e seen) h f (stage_next (call_at r).stage (call_at r) e (view_at r e) seen).which
 
-pub r5_in_place : (n : ℕ) (r : List ℕ) (e : ℕ) (q : Queue) → in_place n r (goes_on e (named (call_at r) R5 q)) ≡ to_r5 r q
+pub r5_move : (n : ℕ) (r : List ℕ) (e : ℕ) (q : Queue) → in_place n r (goes_on e (named (call_at r) R5 q)) ≡ r5_in_place r q
 unfolding in_place due put_value
-r5_in_place n r e q = refl
+r5_move n r e q = refl
 
 -- ---- a stage that leaves the ledger's entry
 
@@ -244,14 +244,14 @@ same_tail r e h = stale_apart r e (call_at r).port (queue_of e) (tail_at r (last
 -- to R5 or R3
 by_tests : (n : ℕ) (r : List ℕ) (e : ℕ) → (a b : Bool) →
     in_place n r (move_to r e (cond a (named (call_at r) R5 (queue_of e)) (cond b (named (call_at r) R5 (queue_of e)) (named (call_at r) R3 (queue_of e)))))
-    ≡ cond a (to_r5 (cleared r e) (queue_of e)) (cond b (to_r5 (cleared r e) (queue_of e)) (to_r3 (cleared r e) (queue_of e)))
+    ≡ cond a (r5_in_place (cleared r e) (queue_of e)) (cond b (r5_in_place (cleared r e) (queue_of e)) (r3_in_place (cleared r e) (queue_of e)))
 unfolding in_place due
 by_tests n r e true b = rw (call_apart r (stale r e).0 0) refl
 by_tests n r e false true = rw (call_apart r (stale r e).0 0) refl
 by_tests n r e false false = rw (call_apart r (stale r e).0 0) refl
 
 -- what R2's reply writes of the record
-r2_moved : (n : ℕ) (r : List ℕ) (e : ℕ) → domain_size ≤ length r → in_place n r (move_to r e (after_r2 (call_at r) (queue_of e) (tail_at r (priority e)))) ≡ from_r2 (cleared r e) (queue_of e)
+r2_moved : (n : ℕ) (r : List ℕ) (e : ℕ) → domain_size ≤ length r → in_place n r (move_to r e (after_r2 (call_at r) (queue_of e) (tail_at r (priority e)))) ≡ after_r2_in_place (cleared r e) (queue_of e)
 unfolding after_r2
 r2_moved n r e h =
     let m = by_tests n r e (eqb (tail_at r (priority e)) 0) (eqb (tail_at r (priority e)) (call_at r).port.0) in
@@ -259,7 +259,7 @@ r2_moved n r e h =
 
 -- and its reply, by what its code computes one after another
 pub r2_steps : (n : ℕ) (r : List ℕ) (seen : ℕ) (c : Call) (e : ℕ) (q : Queue) (d : List ℕ) {x : EncodedNext} {s : List ℕ} → domain_size ≤ length r → has Linked seen ≡ false →
-    c ≡ call_at r → q ≡ queue_at (priority e) → d ≡ put_tail r (stale_queue e c.port q (tail_at r (last_queue e))).0 0 → wrote x s ≡ from_r2 d q →
+    c ≡ call_at r → q ≡ queue_at (priority e) → d ≡ put_tail r (stale_queue e c.port q (tail_at r (last_queue e))).0 0 → wrote x s ≡ after_r2_in_place d q →
     wrote x s ≡ in_place n r (reply_r2 (call_at r) e (view_at r e) seen)
 unfolding reply_r2 view_at
 r2_steps n r seen c e q d h l a g k w =

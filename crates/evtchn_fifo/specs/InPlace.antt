@@ -67,31 +67,31 @@ abbrev pub put_entry_at : List ℕ → ℕ → List ℕ
 put_entry_at t e = put_number 1 t 0 e
 
 -- the call goes on at R2; at R3 or R5 on a queue
-abbrev pub to_r2 : List ℕ → Wrote
-to_r2 r = wrote (encoded_access (Or (Word (call_at r).port) (mask Linked))) (put_next r (named (call_at r) R2 (queue_at 0)))
+abbrev pub r2_in_place : List ℕ → Wrote
+r2_in_place r = wrote (encoded_access (Or (Word (call_at r).port) (mask Linked))) (put_next r (named (call_at r) R2 (queue_at 0)))
 
-abbrev pub to_r3 : List ℕ → Queue → Wrote
-to_r3 r q = wrote (encoded_access (Read (Word (port_at (tail_at r q.0))))) (put_next r (named (call_at r) R3 q))
+abbrev pub r3_in_place : List ℕ → Queue → Wrote
+r3_in_place r q = wrote (encoded_access (Read (Word (port_at (tail_at r q.0))))) (put_next r (named (call_at r) R3 q))
 
 -- at a cas of the tail's word; at the and that clears BUSY of it
 abbrev tail_of : List ℕ → Port
 tail_of r = port_at (tail_at r (call_at r).queue.0)
 
-abbrev pub to_r4 : ℕ → List ℕ → ℕ → ℕ → Wrote
-to_r4 n r tries w = wrote (encoded_access (Cas (Word (tail_of r)) w (linking_word n w (call_at r).port.0))) (put_next r (comparing (call_at r) tries w))
+abbrev pub r4_in_place : ℕ → List ℕ → ℕ → ℕ → Wrote
+r4_in_place n r tries w = wrote (encoded_access (Cas (Word (tail_of r)) w (linking_word n w (call_at r).port.0))) (put_next r (comparing (call_at r) tries w))
 
-abbrev pub to_clear_busy : List ℕ → ℕ → Wrote
-to_clear_busy r w = wrote (encoded_access (And (Word (tail_of r)) (all_but Busy))) (put_next r (clearing (call_at r) w))
+abbrev pub clear_busy_in_place : List ℕ → ℕ → Wrote
+clear_busy_in_place r w = wrote (encoded_access (And (Word (tail_of r)) (all_but Busy))) (put_next r (clearing (call_at r) w))
 
-abbrev pub to_r5 : List ℕ → Queue → Wrote
-to_r5 r q = wrote (encoded_access (Store (Head q) (call_at r).port.0)) (put_next r (named (call_at r) R5 q))
+abbrev pub r5_in_place : List ℕ → Queue → Wrote
+r5_in_place r q = wrote (encoded_access (Store (Head q) (call_at r).port.0)) (put_next r (named (call_at r) R5 q))
 
 -- and after R2, once the tail of the port's last queue is cleared
-abbrev pub from_r2 : List ℕ → Queue → Wrote
-from_r2 r q =
-    cond (eqb (tail_at r q.0) 0) (to_r5 r q)
-    (cond (eqb (tail_at r q.0) (call_at r).port.0) (to_r5 r q)
-    (to_r3 r q))
+abbrev pub after_r2_in_place : List ℕ → Queue → Wrote
+after_r2_in_place r q =
+    cond (eqb (tail_at r q.0) 0) (r5_in_place r q)
+    (cond (eqb (tail_at r q.0) (call_at r).port.0) (r5_in_place r q)
+    (r3_in_place r q))
 
 -- ---- the guest's side
 

@@ -1,4 +1,6 @@
 // The guest's clear_mask, and her reply and what is due, which are the clear_mask's while one is under way, as C reaches them.
+#![tactic(auto, unfolding(calls::specs::ClearMask::clear_mask_start, crate::specs::ClearMask::clear_mask_bytes, crate::specs::ClearMask::clear_move_bytes, calls::specs::ClearMask::clear_next, crate::specs::Encoded::encoded_next, crate::specs::ClearMask::guest_reply_bytes, crate::specs::ClearMask::guest_due_bytes))]
+
 ghost use Rattle.std.specs.Prelude.{◌≡◌};
 ghost use Rattle.word.specs.Word.{link_bits, port_at};
 ghost use Rattle.calls.specs.Records.{guest_idle};
@@ -24,7 +26,6 @@ fn goes_on(guest: &mut GuestBytes, call: ClearCall, access: Access) -> PackedNex
 }
 
 // Each refusal is returned by itself: a start that refused by a Result took 3 instructions more.
-#[tactic(auto, unfolding(calls::specs::ClearMask::clear_mask_start))]
 fn clear_mask(guest: &mut GuestBytes, port: Port) -> PackedNext
     ensures { wrote (unpacked result) guest.new ≡ clear_began_of guest.old (clear_mask_start link_bits (without_heads (words_at guest.old) guest_idle (clear_call_at guest.old)) port) }
 {
@@ -42,7 +43,6 @@ fn clear_mask(guest: &mut GuestBytes, port: Port) -> PackedNext
 }
 
 // The guest clears MASKED of a port by herself: 15, 3, 6; 35 where she has to call unmask.
-#[tactic(auto, unfolding(crate::specs::ClearMask::clear_mask_bytes))]
 pub fn evtchn_fifo_bytes_clear_mask(guest: &mut [u8], port: u64) -> PackedNext
     ensures { wrote (unpacked result) guest.new ≡ clear_mask_bytes link_bits guest.old port }
 {
@@ -53,7 +53,6 @@ pub fn evtchn_fifo_bytes_clear_mask(guest: &mut [u8], port: u64) -> PackedNext
 }
 
 // The clear_mask's reply; one that ends leaves its other words.
-#[tactic(auto, unfolding(crate::specs::ClearMask::clear_move_bytes, calls::specs::ClearMask::clear_next, crate::specs::Encoded::encoded_next))]
 fn clear_reply(guest: &mut GuestBytes, seen: u32) -> PackedNext
     ensures { wrote (unpacked result) guest.new ≡ clear_move_bytes guest.old (clear_staged (clear_call_at guest.old) seen) }
 {
@@ -75,7 +74,6 @@ fn reply(guest: &mut GuestBytes, seen: u32) -> PackedNext
 }
 
 // The reply to the access that was named last, with the word seen: the clear_mask's while one is under way, else the service's.
-#[tactic(auto, unfolding(crate::specs::ClearMask::guest_reply_bytes))]
 pub fn evtchn_fifo_bytes_service_reply(guest: &mut [u8], seen: u32) -> PackedNext
     ensures { wrote (unpacked result) guest.new ≡ guest_reply_bytes link_bits guest.old seen }
 {
@@ -96,7 +94,6 @@ fn due(guest: &GuestBytes) -> PackedNext
 }
 
 // The access that the clear_mask under way waits for, else the service; 16 where neither is.
-#[tactic(auto, unfolding(crate::specs::ClearMask::guest_due_bytes))]
 pub fn evtchn_fifo_bytes_service_due(guest: &[u8]) -> PackedNext
     ensures { unpacked result ≡ guest_due_bytes link_bits guest.now }
 {

@@ -1,4 +1,6 @@
 // A domain's record in bytes: its fields read and written.
+#![tactic(auto, unfolding(crate::specs::DomainRecord::owner_of, crate::specs::DomainRecord::stage_of, crate::specs::DomainRecord::given_at, crate::specs::DomainRecord::owner_at, crate::specs::DomainRecord::call_at, crate::specs::DomainRecord::put_call, crate::specs::DomainRecord::put_next, crate::specs::DomainRecord::put_domain))]
+
 ghost use Rattle.std.specs.Prelude.{◌≡◌, not};
 ghost use Rattle.calls.specs.Records.{is_free};
 ghost use Rattle.evtchn_fifo.specs.DomainRecord.{owner_code, owner_of, stage_code, stage_of, given_code, given_at, given_in, pages_in, owner_at, call_at, closing_in, put_next, put_call, put_domain};
@@ -17,7 +19,6 @@ pub fn owner_code(owner: Owner) -> u32
 
 // The owner of a code; none where it is no owner's. No `TryFrom`, here and for stages: the types are of `calls`, which has no codes, and an
 // impl may stand only there; and no code is a failure.
-#[tactic(auto, unfolding(crate::specs::DomainRecord::owner_of))]
 pub fn owner_of(code: u32) -> Owner
     ensures { result ≡ owner_of code }
 {
@@ -37,7 +38,6 @@ pub fn stage_code(stage: Stage) -> u32
 }
 
 // The stage of a code; the first where it is no stage's, and then no call is under way.
-#[tactic(auto, unfolding(crate::specs::DomainRecord::stage_of))]
 pub fn stage_of(code: u32) -> Stage
     ensures { result ≡ stage_of code }
 {
@@ -59,7 +59,6 @@ pub fn given_code(given: bool) -> u32
     u32::from(given)
 }
 
-#[tactic(auto, unfolding(crate::specs::DomainRecord::given_at))]
 pub(crate) fn given_at(domain: &DomainBytes) -> bool
     ensures { result ≡ given_at domain.now }
 {
@@ -67,7 +66,6 @@ pub(crate) fn given_at(domain: &DomainBytes) -> bool
 }
 
 // Whether the control block is given; not where the record is too short.
-#[tactic(auto, unfolding(crate::specs::DomainRecord::given_at))]
 pub fn given_in(domain: &[u8]) -> bool
     ensures { result ≡ given_in domain.now }
 {
@@ -85,7 +83,6 @@ pub fn pages_in(domain: &[u8]) -> u32
 }
 
 // The call under way's owner; none where its owner's or its stage's code is none of the list's.
-#[tactic(auto, unfolding(crate::specs::DomainRecord::owner_at))]
 pub(crate) fn owner_at(domain: &DomainBytes) -> Owner
     ensures { result ≡ owner_at domain.now }
 {
@@ -108,7 +105,6 @@ pub(crate) fn is_under_way(domain: &DomainBytes) -> bool
     0 < owner && owner < 5
 }
 
-#[tactic(auto, unfolding(crate::specs::DomainRecord::call_at))]
 pub(crate) fn call_at(domain: &DomainBytes) -> Call
     ensures { result ≡ call_at domain.now }
 {
@@ -138,7 +134,6 @@ pub fn closing_in(domain: &[u8]) -> u32
     numbers::u32_at(domain, layout::PORT)
 }
 
-#[tactic(auto, unfolding(crate::specs::DomainRecord::put_call))]
 pub(crate) fn put_call(domain: &mut DomainBytes, call: Call)
     ensures { domain.new ≡ put_call domain.old call }
 {
@@ -148,7 +143,6 @@ pub(crate) fn put_call(domain: &mut DomainBytes, call: Call)
 }
 
 // The next stage of the call under way: its owner and its port stay.
-#[tactic(auto, unfolding(crate::specs::DomainRecord::put_next))]
 pub(crate) fn put_next(domain: &mut DomainBytes, call: Call)
     ensures { domain.new ≡ put_next domain.old call }
 {
@@ -160,7 +154,6 @@ pub(crate) fn put_next(domain: &mut DomainBytes, call: Call)
 }
 
 // A record written whole.
-#[tactic(auto, unfolding(crate::specs::DomainRecord::put_domain))]
 pub(crate) fn put_domain(bytes: &mut DomainBytes, domain: Domain)
     ensures { bytes.new ≡ put_domain bytes.old domain }
 {

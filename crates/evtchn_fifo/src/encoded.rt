@@ -1,4 +1,6 @@
 // What a call or a reply comes to, as C has it.
+#![tactic(auto, unfolding(crate::specs::Encoded::unpacked, crate::specs::Encoded::encoded_answer, crate::specs::Encoded::encoded_place, crate::specs::Encoded::encoded_access, crate::specs::Encoded::encoded_masking))]
+
 ghost use Rattle.std.specs.Prelude.{◌≡◌, ◌≤◌, ◌/◌, ◌%◌};
 ghost use Rattle.evtchn_fifo.specs.Encoded.{unpacked, encoded, place_code, place_index, encoded_place, encoded_access, encoded_answer, encoded_masking, too_short};
 ghost use Rattle.evtchn_fifo.specs.InPlace.{next_or_answer};
@@ -18,10 +20,9 @@ pub struct PackedNext {
 fn pair(lower: u32, upper: u32) -> u64
     ensures { (result % 0x100000000 ≡ lower) × (result / 0x100000000 ≡ upper) }
 {
-    u64::from(lower) + u64::from(upper) * 0x1_0000_0000
+    u64::from(lower) | u64::from(upper) << 32
 }
 
-#[tactic(auto, unfolding(crate::specs::Encoded::unpacked))]
 fn packed(code: u32, index: u32, value: u32, old: u32) -> PackedNext
     ensures { unpacked result ≡ encoded code index value old }
 {
@@ -37,7 +38,6 @@ pub fn too_short() -> PackedNext
     packed(64, 0, 0, 0)
 }
 
-#[tactic(auto, unfolding(crate::specs::Encoded::encoded_answer))]
 pub fn encoded_answer(answer: Answer, count: u32) -> PackedNext
     ensures { unpacked result ≡ encoded_answer answer count }
 {
@@ -66,7 +66,6 @@ pub fn place_index(place: Place) -> u32
     }
 }
 
-#[tactic(auto, unfolding(crate::specs::Encoded::encoded_place))]
 fn encoded_place(kind: u32, place: Place, value: u32, old: u32) -> PackedNext
     requires { kind ≤ 0x150 }
     ensures { unpacked result ≡ encoded_place kind place value old }
@@ -74,7 +73,6 @@ fn encoded_place(kind: u32, place: Place, value: u32, old: u32) -> PackedNext
     packed(kind + place_code(place), place_index(place), value, old)
 }
 
-#[tactic(auto, unfolding(crate::specs::Encoded::encoded_access))]
 pub fn encoded_access(access: Access) -> PackedNext
     ensures { unpacked result ≡ encoded_access access }
 {
@@ -99,7 +97,6 @@ pub(crate) fn next_or_answer(outcome: Result<PackedNext, Answer>) -> PackedNext
 }
 
 // A mask's access says its answer 0 and count 1.
-#[tactic(auto, unfolding(crate::specs::Encoded::encoded_masking))]
 pub fn encoded_masking(masking: Result<Made, Refused>) -> PackedNext
     ensures { unpacked result ≡ encoded_masking masking }
 {

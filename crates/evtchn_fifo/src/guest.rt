@@ -1,4 +1,6 @@
 // The guest's service with its reply, mask and tell. C reaches the reply through clear_mask, which comes first.
+#![tactic(auto, unfolding(crate::specs::Guest::service_next_at, crate::specs::Guest::fresh_guest_bytes, calls::specs::Guest::service_start, calls::specs::Guest::guest_next, calls::specs::Guest::is_serving, calls::specs::Guest::guest_due, crate::specs::Guest::service_bytes, calls::specs::Guest::takes_index, crate::specs::Guest::guest_move_bytes, crate::specs::Numbers::put_value, calls::specs::Guest::reply_g0, calls::specs::Guest::service_queue, calls::specs::Guest::guest_staged, crate::specs::Guest::mask_bytes))]
+
 ghost use Rattle.std.specs.Prelude.{◌≡◌};
 ghost use Rattle.word.specs.Word.{link_bits};
 ghost use Rattle.word.specs.Ready.{cleared};
@@ -17,7 +19,6 @@ use calls::types::{Access, Answer, GuestCall, GuestStage, Place};
 use word::{Flag, Port, Queue};
 
 // The access that a service waits for, or the answer with its count where there is none.
-#[tactic(auto, unfolding(crate::specs::Guest::service_next_at))]
 pub fn service_next_at(call: GuestCall, answer: Answer, count: u32) -> PackedNext
     ensures { unpacked result ≡ service_next_at link_bits call answer count }
 {
@@ -27,7 +28,6 @@ pub fn service_next_at(call: GuestCall, answer: Answer, count: u32) -> PackedNex
     encoded::encoded_access(calls::guest::guest_access(call))
 }
 
-#[tactic(auto, unfolding(crate::specs::Guest::fresh_guest_bytes))]
 pub fn evtchn_fifo_bytes_fresh_guest(guest: &mut [u8]) -> u32
     ensures { freshened result guest.new ≡ fresh_guest_bytes guest.old }
 {
@@ -38,7 +38,6 @@ pub fn evtchn_fifo_bytes_fresh_guest(guest: &mut [u8]) -> u32
     0
 }
 
-#[tactic(auto, unfolding(calls::specs::Guest::service_start, calls::specs::Guest::guest_next, calls::specs::Guest::is_serving, calls::specs::Guest::guest_due))]
 fn service(guest: &mut GuestBytes) -> PackedNext
     ensures { wrote (unpacked result) guest.new ≡ began_of guest.old (service_start link_bits (without_heads 0 (service_at guest.old) (clear_call_at guest.old))) }
 {
@@ -53,7 +52,6 @@ fn service(guest: &mut GuestBytes) -> PackedNext
     goes_on(guest, first, Access::Swap(Place::Ready, 0))
 }
 
-#[tactic(auto, unfolding(crate::specs::Guest::service_bytes))]
 pub fn evtchn_fifo_bytes_service(guest: &mut [u8]) -> PackedNext
     ensures { wrote (unpacked result) guest.new ≡ service_bytes link_bits guest.old }
 {
@@ -90,7 +88,6 @@ fn bad_index(guest: &mut GuestBytes, ready: u32, queue: Queue, count: u32) -> Pa
 }
 
 // An index from H or HEAD: 18 where it is 0 or outside her words, else G2.
-#[tactic(auto, unfolding(calls::specs::Guest::takes_index, crate::specs::Guest::guest_move_bytes, crate::specs::Guest::service_next_at, crate::specs::Numbers::put_value, calls::specs::Guest::is_serving, calls::specs::Guest::guest_due))]
 fn takes_index(
     guest: &mut GuestBytes,
     call: GuestCall,
@@ -113,7 +110,6 @@ fn takes_index(
 }
 
 // G0: local bits are added; none gives 20. The lowest set bit is the queue: G1 where its H is 0.
-#[tactic(auto, unfolding(calls::specs::Guest::reply_g0, calls::specs::Guest::service_queue, crate::specs::Guest::guest_move_bytes, crate::specs::Guest::service_next_at, crate::specs::Numbers::put_value, calls::specs::Guest::is_serving, calls::specs::Guest::guest_due))]
 fn reply_g0(guest: &mut GuestBytes, call: GuestCall, seen: u32) -> PackedNext
     ensures { wrote (unpacked result) guest.new ≡ guest_move_bytes link_bits guest.old (reply_g0 call (ready_at guest.old) (words_at guest.old) (head_at guest.old (service_queue (ready_at guest.old) seen).0) seen) }
 {
@@ -191,7 +187,6 @@ fn reply_g4(guest: &mut GuestBytes, call: GuestCall, seen: u32) -> PackedNext
 }
 
 // The reply of the service's stage; 16 where there is none.
-#[tactic(auto, unfolding(calls::specs::Guest::is_serving, calls::specs::Guest::guest_staged))]
 pub(crate) fn reply_staged(guest: &mut GuestBytes, seen: u32) -> PackedNext
     ensures { wrote (unpacked result) guest.new ≡ served_bytes link_bits guest.old seen }
 {
@@ -207,7 +202,6 @@ pub(crate) fn reply_staged(guest: &mut GuestBytes, seen: u32) -> PackedNext
 }
 
 // A mask of a port by a number of words. With its access its answer is 0 and its count 1; it takes no reply.
-#[tactic(auto, unfolding(crate::specs::Guest::mask_bytes))]
 pub fn evtchn_fifo_mask(port: u64, words: u64) -> PackedNext
     ensures { unpacked result ≡ mask_bytes link_bits port words }
 {

@@ -1,4 +1,6 @@
 // A guest's record in bytes: its fields read and written.
+#![tactic(auto, unfolding(crate::specs::GuestRecord::guest_stage_of, crate::specs::GuestRecord::clear_stage_of, crate::specs::GuestRecord::service_at, crate::specs::GuestRecord::put_service, crate::specs::GuestRecord::clear_call_at, crate::specs::GuestRecord::put_clear, crate::specs::GuestRecord::put_guest))]
+
 ghost use Rattle.std.specs.Prelude.{◌≡◌};
 ghost use Rattle.calls.specs.Records.{is_clearing};
 ghost use Rattle.evtchn_fifo.specs.GuestRecord.{guest_stage_code, guest_stage_of, clear_stage_code, clear_stage_of, words_in, service_at, clear_call_at, put_service, put_clear, put_guest};
@@ -16,7 +18,6 @@ pub fn guest_stage_code(stage: GuestStage) -> u32
 }
 
 // The stage of a code; none where it is no stage's.
-#[tactic(auto, unfolding(crate::specs::GuestRecord::guest_stage_of))]
 pub fn guest_stage_of(code: u32) -> GuestStage
     ensures { result ≡ guest_stage_of code }
 {
@@ -37,7 +38,6 @@ pub fn clear_stage_code(stage: ClearStage) -> u32
 }
 
 // The stage of a code; none where it is no stage's.
-#[tactic(auto, unfolding(crate::specs::GuestRecord::clear_stage_of))]
 pub fn clear_stage_of(code: u32) -> ClearStage
     ensures { result ≡ clear_stage_of code }
 {
@@ -58,7 +58,6 @@ pub fn words_in(guest: &[u8]) -> u32
     numbers::u32_at(guest, layout::WORDS)
 }
 
-#[tactic(auto, unfolding(crate::specs::GuestRecord::service_at))]
 pub(crate) fn service_at(guest: &GuestBytes) -> GuestCall
     ensures { result ≡ service_at guest.now }
 {
@@ -70,7 +69,6 @@ pub(crate) fn service_at(guest: &GuestBytes) -> GuestCall
     }
 }
 
-#[tactic(auto, unfolding(crate::specs::GuestRecord::put_service))]
 pub(crate) fn put_service(guest: &mut GuestBytes, call: GuestCall)
     ensures { guest.new ≡ put_service guest.old call }
 {
@@ -89,7 +87,6 @@ pub(crate) fn is_clearing_at(guest: &GuestBytes) -> bool
     0 < stage && stage < 3
 }
 
-#[tactic(auto, unfolding(crate::specs::GuestRecord::clear_call_at))]
 pub(crate) fn clear_call_at(guest: &GuestBytes) -> ClearCall
     ensures { result ≡ clear_call_at guest.now }
 {
@@ -101,7 +98,6 @@ pub(crate) fn clear_call_at(guest: &GuestBytes) -> ClearCall
     }
 }
 
-#[tactic(auto, unfolding(crate::specs::GuestRecord::put_clear))]
 pub(crate) fn put_clear(guest: &mut GuestBytes, call: ClearCall)
     ensures { guest.new ≡ put_clear guest.old call }
 {
@@ -112,7 +108,6 @@ pub(crate) fn put_clear(guest: &mut GuestBytes, call: ClearCall)
 }
 
 // A record written whole.
-#[tactic(auto, unfolding(crate::specs::GuestRecord::put_guest))]
 pub(crate) fn put_guest(bytes: &mut GuestBytes, guest: Guest)
     ensures { bytes.new ≡ put_guest bytes.old guest }
 {

@@ -1,4 +1,6 @@
 // The hypervisor's seven calls and its reply, as C reaches them. Each takes the first bytes of a record as one of its own length.
+#![tactic(auto, unfolding(crate::specs::Hypervisor::next_at, crate::specs::Hypervisor::fresh_domain_bytes, crate::specs::Hypervisor::init_bytes, crate::specs::Hypervisor::expand_bytes, calls::specs::Hypervisor::accept_port, crate::specs::DomainRecord::call_at, crate::specs::Hypervisor::start_bytes, calls::specs::Hypervisor::begin_bind, calls::specs::Hypervisor::due, calls::specs::Records::is_free, crate::specs::Hypervisor::on_port, calls::specs::Hypervisor::begin_close, calls::specs::Hypervisor::begin_priority, calls::specs::Hypervisor::begin_link, crate::specs::Ledger::entry_in, crate::specs::Hypervisor::reply_bytes))]
+
 ghost use Rattle.std.specs.Prelude.{◌≡◌, false};
 ghost use Rattle.word.specs.Word.{link_bits, queue_at};
 ghost use Rattle.word.specs.Entry.{priority_at};
@@ -23,7 +25,6 @@ use calls::types::{Answer, Call, Owner, Stage};
 use word::{Port, Priority, Queue};
 
 // The access that a record's call waits for, or the answer with its count where there is none.
-#[tactic(auto, unfolding(crate::specs::Hypervisor::next_at))]
 fn next_at(domain: &DomainBytes, call: Call, answer: Answer, count: u32) -> PackedNext
     ensures { unpacked result ≡ next_at link_bits domain.now call answer count }
 {
@@ -34,7 +35,6 @@ fn next_at(domain: &DomainBytes, call: Call, answer: Answer, count: u32) -> Pack
     encoded::encoded_access(stage::due(call, tail))
 }
 
-#[tactic(auto, unfolding(crate::specs::Hypervisor::fresh_domain_bytes))]
 pub fn evtchn_fifo_bytes_fresh_domain(domain: &mut [u8]) -> u32
     ensures { freshened result domain.new ≡ fresh_domain_bytes domain.old }
 {
@@ -62,7 +62,6 @@ fn init_control(
     Ok(encoded::encoded_answer(Answer::LinkBits(bits), 0))
 }
 
-#[tactic(auto, unfolding(crate::specs::Hypervisor::init_bytes))]
 pub fn evtchn_fifo_bytes_init_control(
     domain: &mut [u8],
     vcpu: u64,
@@ -91,7 +90,6 @@ fn expand_array(domain: &mut DomainBytes, frame: u64, frames: u64) -> Result<Pac
     Ok(encoded::encoded_answer(Answer::Done, 0))
 }
 
-#[tactic(auto, unfolding(crate::specs::Hypervisor::expand_bytes))]
 pub fn evtchn_fifo_bytes_expand_array(domain: &mut [u8], frame: u64, frames: u64) -> PackedNext
     ensures { wrote (unpacked result) domain.new ≡ expand_bytes link_bits domain.old frame frames }
 {
@@ -102,7 +100,6 @@ pub fn evtchn_fifo_bytes_expand_array(domain: &mut [u8], frame: u64, frames: u64
 }
 
 // The entry of a port that gets past 15, 10, 3 and 14, each tested in its turn.
-#[tactic(auto, unfolding(calls::specs::Hypervisor::accept_port, crate::specs::DomainRecord::call_at))]
 fn accepted(domain: &DomainBytes, ledger: &[u8], port: Port) -> Result<u16, Answer>
     ensures { result ≡ accept_port link_bits (owner_at domain.now) (given_at domain.now) port (entry_in ledger.now port.0) }
 {
@@ -141,7 +138,6 @@ fn inside(domain: &DomainBytes, port: Port) -> bool
     records::in_array(numbers::u32_at(domain, layout::PAGES), port)
 }
 
-#[tactic(auto, unfolding(crate::specs::Hypervisor::start_bytes, crate::specs::Hypervisor::next_at, calls::specs::Hypervisor::begin_bind, calls::specs::Hypervisor::due, calls::specs::Records::is_free))]
 fn bind(domain: &mut DomainBytes, ledger: &mut [u8], port: Port) -> Result<PackedNext, Answer>
     ensures { carried (next_or_answer result) domain.new ledger.new ≡ started link_bits (starts_of link_bits Bind) domain.old ledger.old port }
 {
@@ -155,7 +151,6 @@ fn bind(domain: &mut DomainBytes, ledger: &mut [u8], port: Port) -> Result<Packe
     Ok(settled(ledger, port, word::entry::bound_entry(entry)))
 }
 
-#[tactic(auto, unfolding(crate::specs::Hypervisor::on_port))]
 pub fn evtchn_fifo_bytes_bind(domain: &mut [u8], ledger: &mut [u8], port: u64) -> PackedNext
     ensures { carried (unpacked result) domain.new ledger.new ≡ bind_bytes link_bits domain.old ledger.old port }
 {
@@ -165,7 +160,6 @@ pub fn evtchn_fifo_bytes_bind(domain: &mut [u8], ledger: &mut [u8], port: u64) -
     encoded::next_or_answer(bind(record, ledger, Port(numbers::narrowed(port))))
 }
 
-#[tactic(auto, unfolding(crate::specs::Hypervisor::start_bytes, crate::specs::Hypervisor::next_at, calls::specs::Hypervisor::begin_close, calls::specs::Hypervisor::due, calls::specs::Records::is_free))]
 fn close(domain: &mut DomainBytes, ledger: &mut [u8], port: Port) -> Result<PackedNext, Answer>
     ensures { carried (next_or_answer result) domain.new ledger.new ≡ started link_bits (starts_of link_bits Close) domain.old ledger.old port }
 {
@@ -179,7 +173,6 @@ fn close(domain: &mut DomainBytes, ledger: &mut [u8], port: Port) -> Result<Pack
     Ok(settled(ledger, port, word::entry::closed_entry(entry)))
 }
 
-#[tactic(auto, unfolding(crate::specs::Hypervisor::on_port))]
 pub fn evtchn_fifo_bytes_close(domain: &mut [u8], ledger: &mut [u8], port: u64) -> PackedNext
     ensures { carried (unpacked result) domain.new ledger.new ≡ close_bytes link_bits domain.old ledger.old port }
 {
@@ -189,7 +182,6 @@ pub fn evtchn_fifo_bytes_close(domain: &mut [u8], ledger: &mut [u8], port: u64) 
     encoded::next_or_answer(close(record, ledger, Port(numbers::narrowed(port))))
 }
 
-#[tactic(auto, unfolding(crate::specs::Hypervisor::start_bytes, calls::specs::Hypervisor::begin_priority))]
 fn set_priority(
     domain: &mut DomainBytes,
     ledger: &mut [u8],
@@ -205,7 +197,6 @@ fn set_priority(
     Ok(settled(ledger, port, word::entry::with_priority(entry, priority)))
 }
 
-#[tactic(auto, unfolding(crate::specs::Hypervisor::on_port))]
 pub fn evtchn_fifo_bytes_set_priority(
     domain: &mut [u8],
     ledger: &mut [u8],
@@ -222,7 +213,6 @@ pub fn evtchn_fifo_bytes_set_priority(
 }
 
 // raise and unmask: 4, 6.
-#[tactic(auto, unfolding(crate::specs::Hypervisor::start_bytes, crate::specs::Hypervisor::next_at, calls::specs::Hypervisor::begin_link, calls::specs::Hypervisor::due))]
 fn link(
     domain: &mut DomainBytes,
     ledger: &[u8],
@@ -242,7 +232,6 @@ fn link(
     Ok(begun(domain, owner, port))
 }
 
-#[tactic(auto, unfolding(crate::specs::Hypervisor::on_port, calls::specs::Records::is_free))]
 pub fn evtchn_fifo_bytes_raise(domain: &mut [u8], ledger: &mut [u8], port: u64) -> PackedNext
     ensures { carried (unpacked result) domain.new ledger.new ≡ raise_bytes link_bits domain.old ledger.old port }
 {
@@ -252,7 +241,6 @@ pub fn evtchn_fifo_bytes_raise(domain: &mut [u8], ledger: &mut [u8], port: u64) 
     encoded::next_or_answer(link(record, ledger, Port(numbers::narrowed(port)), Owner::Raise))
 }
 
-#[tactic(auto, unfolding(crate::specs::Hypervisor::on_port, calls::specs::Records::is_free))]
 pub fn evtchn_fifo_bytes_unmask(domain: &mut [u8], ledger: &mut [u8], port: u64) -> PackedNext
     ensures { carried (unpacked result) domain.new ledger.new ≡ unmask_bytes link_bits domain.old ledger.old port }
 {
@@ -264,7 +252,6 @@ pub fn evtchn_fifo_bytes_unmask(domain: &mut [u8], ledger: &mut [u8], port: u64)
 
 // Here and in the guest's reply each refusal stands behind what its test lets through: the compiler lays code out in that order, so
 // that a call which goes on takes no jump.
-#[tactic(auto, unfolding(crate::specs::DomainRecord::call_at, crate::specs::Ledger::entry_in))]
 fn reply(domain: &mut DomainBytes, ledger: &mut [u8], seen: u32) -> PackedNext
     ensures { carried (unpacked result) domain.new ledger.new ≡ replied link_bits domain.old ledger.old seen }
 {
@@ -283,7 +270,6 @@ fn reply(domain: &mut DomainBytes, ledger: &mut [u8], seen: u32) -> PackedNext
 }
 
 // The reply to the access that was named last, with the word seen.
-#[tactic(auto, unfolding(crate::specs::Hypervisor::reply_bytes))]
 pub fn evtchn_fifo_bytes_reply(domain: &mut [u8], ledger: &mut [u8], seen: u32) -> PackedNext
     ensures { carried (unpacked result) domain.new ledger.new ≡ reply_bytes link_bits domain.old ledger.old seen }
 {

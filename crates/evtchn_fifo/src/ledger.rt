@@ -1,4 +1,6 @@
 // The ledger in bytes: an entry of two bytes a port. A last odd byte is no entry.
+#![tactic(auto, unfolding(crate::specs::Ledger::entry_in, crate::specs::Ledger::put_entry))]
+
 ghost use Rattle.std.specs.Prelude.{◌≡◌, ltb};
 ghost use Rattle.evtchn_fifo.specs.Ledger.{entries, entry_in, put_entry, fresh_ledger_bytes};
 ghost use Rattle.evtchn_fifo.specs.Encoded.{freshened};
@@ -12,7 +14,6 @@ pub(crate) fn has_entry(ledger: &[u8], port: Port) -> bool
     (port.0 as usize) < ledger.len() / 2
 }
 
-#[tactic(auto, unfolding(crate::specs::Ledger::entry_in))]
 pub fn entry_in(ledger: &[u8], port: Port) -> Option<u16>
     ensures { result ≡ entry_in ledger.now port.0 }
 {
@@ -23,7 +24,6 @@ pub fn entry_in(ledger: &[u8], port: Port) -> Option<u16>
 }
 
 // The ledger with another entry for a port; a port that it has no entry for changes nothing.
-#[tactic(auto, unfolding(crate::specs::Ledger::put_entry))]
 pub fn put_entry(ledger: &mut [u8], port: Port, entry: u16)
     ensures { ledger.new ≡ put_entry ledger.old port.0 entry }
 {

@@ -1,4 +1,6 @@
 // Numbers in bytes, the lowest byte first; the sixteen numbers of a record's queues; 64-bit numbers as 32-bit ones.
+#![tactic(auto, unfolding(crate::specs::Numbers::number_at, crate::specs::Numbers::put_number, crate::specs::Numbers::number_in, crate::specs::Numbers::put_number_in, crate::specs::Numbers::narrow, crate::specs::Numbers::value_at, crate::specs::Numbers::put_value))]
+
 ghost use Rattle.std.specs.Prelude.{◌≡◌, ◌+◌, ◌≤◌, length};
 ghost use Rattle.evtchn_fifo.specs.Numbers.{number_at, put_number, number_in, put_number_in, narrow, value_at, put_value, put_values};
 
@@ -6,7 +8,6 @@ use word::Queue;
 
 // Four functions for numbers of four and of two bytes: no trait of the library has from_le_bytes and to_le_bytes for both, and one of our
 // own would be longer. That the number lies in the bytes is a clause on both arguments, met by constants wherever a record is read.
-#[tactic(auto, unfolding(crate::specs::Numbers::number_at))]
 pub(crate) fn u32_at(bytes: &[u8], at: usize) -> u32
     requires { at + 4 ≤ length bytes.now }
     ensures { result ≡ number_at 3 bytes.now at }
@@ -14,7 +15,7 @@ pub(crate) fn u32_at(bytes: &[u8], at: usize) -> u32
     u32::from_le_bytes([bytes[at], bytes[at + 1], bytes[at + 2], bytes[at + 3]])
 }
 
-#[tactic(auto, unfolding(crate::specs::Numbers::put_number))]
+// By index: after copy_from_slice into a range `put_mid at 4 bytes copied ≡ put_number 3 bytes at value` is left to prove.
 pub(crate) fn put_u32(bytes: &mut [u8], at: usize, value: u32)
     requires { at + 4 ≤ length bytes.old }
     ensures { bytes.new ≡ put_number 3 bytes.old at value }
@@ -27,7 +28,6 @@ pub(crate) fn put_u32(bytes: &mut [u8], at: usize, value: u32)
 }
 
 // The same two for any place: 0, and nothing written, where the bytes end before four of them.
-#[tactic(auto, unfolding(crate::specs::Numbers::number_in))]
 pub fn u32_in(bytes: &[u8], at: usize) -> u32
     ensures { result ≡ number_in bytes.now at }
 {
@@ -37,7 +37,6 @@ pub fn u32_in(bytes: &[u8], at: usize) -> u32
     u32_at(bytes, at)
 }
 
-#[tactic(auto, unfolding(crate::specs::Numbers::put_number_in))]
 pub fn put_u32_in(bytes: &mut [u8], at: usize, value: u32)
     ensures { bytes.new ≡ put_number_in bytes.old at value }
 {
@@ -46,7 +45,6 @@ pub fn put_u32_in(bytes: &mut [u8], at: usize, value: u32)
     }
 }
 
-#[tactic(auto, unfolding(crate::specs::Numbers::number_at))]
 pub(crate) fn u16_at(bytes: &[u8], at: usize) -> u16
     requires { at + 2 ≤ length bytes.now }
     ensures { result ≡ number_at 1 bytes.now at }
@@ -54,7 +52,6 @@ pub(crate) fn u16_at(bytes: &[u8], at: usize) -> u16
     u16::from_le_bytes([bytes[at], bytes[at + 1]])
 }
 
-#[tactic(auto, unfolding(crate::specs::Numbers::put_number))]
 pub(crate) fn put_u16(bytes: &mut [u8], at: usize, value: u16)
     requires { at + 2 ≤ length bytes.old }
     ensures { bytes.new ≡ put_number 1 bytes.old at value }
@@ -65,7 +62,6 @@ pub(crate) fn put_u16(bytes: &mut [u8], at: usize, value: u16)
 }
 
 // A number of 64 bits as one of 32: itself, or the greatest.
-#[tactic(auto, unfolding(crate::specs::Numbers::narrow))]
 pub fn narrowed(value: u64) -> u32
     ensures { result ≡ narrow value }
 {
@@ -73,7 +69,6 @@ pub fn narrowed(value: u64) -> u32
 }
 
 // A queue's number of the sixteen that begin at base; 0 for a number that is none of the queues.
-#[tactic(auto, unfolding(crate::specs::Numbers::value_at))]
 pub(crate) fn value_at(bytes: &[u8], base: usize, queue: Queue) -> u32
     requires { base + 64 ≤ length bytes.now }
     ensures { result ≡ value_at base bytes.now queue.0 }
@@ -85,7 +80,6 @@ pub(crate) fn value_at(bytes: &[u8], base: usize, queue: Queue) -> u32
 }
 
 // The same number changed; none changes for a number that is none of the queues.
-#[tactic(auto, unfolding(crate::specs::Numbers::put_value))]
 pub(crate) fn put_value(bytes: &mut [u8], base: usize, queue: Queue, value: u32)
     requires { base + 64 ≤ length bytes.old }
     ensures { bytes.new ≡ put_value base bytes.old queue.0 value }

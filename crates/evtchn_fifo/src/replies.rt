@@ -1,6 +1,8 @@
 // The hypervisor's replies on bytes, a function for each stage of the call under way. Each path of a stage writes the words that
 // it changes and names what comes next by itself: where paths met before they write, the compiler would carry every word of the
 // record and of the answer to that place. Only a bind's, a close's and R2's reply are lent the port's entry.
+#![tactic(auto, using(crate::proofs::NumberLaws::put_same), unfolding(calls::specs::Hypervisor::due, calls::specs::Hypervisor::reply_r1, calls::specs::Hypervisor::reply_u1, calls::specs::Hypervisor::reply_bind, calls::specs::Hypervisor::reply_close, calls::specs::Hypervisor::stale_queue, calls::specs::Hypervisor::reply_r3, calls::specs::Hypervisor::after_first_cas, calls::specs::Hypervisor::after_later_cas, calls::specs::Hypervisor::reply_set_busy, calls::specs::Hypervisor::reply_r6, crate::specs::InPlace::in_place, crate::specs::Numbers::put_value))]
+
 ghost use Rattle.std.specs.Prelude.{◌≡◌, ℕ};
 ghost use Rattle.word.specs.Word.{link_bits};
 ghost use Rattle.word.specs.Entry.{last_queue};
@@ -8,7 +10,7 @@ ghost use Rattle.calls.specs.Hypervisor.{stale_queue, reply_r1, reply_u1, reply_
 ghost use Rattle.evtchn_fifo.specs.DomainRecord.{call_at, view_at, tail_at, put_next, put_tail, put_end};
 ghost use Rattle.evtchn_fifo.specs.Encoded.{unpacked, wrote, encoded_answer, encoded_access};
 ghost use Rattle.evtchn_fifo.specs.Hypervisor.{move_at};
-ghost use Rattle.evtchn_fifo.specs.InPlace.{in_place, entry_at, put_entry_at, to_r2, to_r4, to_clear_busy, to_r5, from_r2};
+ghost use Rattle.evtchn_fifo.specs.InPlace.{in_place, entry_at, put_entry_at, r2_in_place, r4_in_place, clear_busy_in_place, r5_in_place, after_r2_in_place};
 
 use crate::encoded::PackedNext;
 use crate::layout::{DomainBytes, EntryBytes};
@@ -34,7 +36,7 @@ fn goes_on(domain: &mut DomainBytes, call: Call, access: Access) -> PackedNext
 }
 
 fn to_r2(domain: &mut DomainBytes) -> PackedNext
-    ensures { wrote (unpacked result) domain.new ≡ to_r2 domain.old }
+    ensures { wrote (unpacked result) domain.new ≡ r2_in_place domain.old }
 {
     let call = domain_record::call_at(domain);
     goes_on(
@@ -45,7 +47,7 @@ fn to_r2(domain: &mut DomainBytes) -> PackedNext
 }
 
 fn to_r5(domain: &mut DomainBytes, queue: Queue) -> PackedNext
-    ensures { wrote (unpacked result) domain.new ≡ to_r5 domain.old queue }
+    ensures { wrote (unpacked result) domain.new ≡ r5_in_place domain.old queue }
 {
     let call = domain_record::call_at(domain);
     goes_on(
@@ -56,7 +58,6 @@ fn to_r5(domain: &mut DomainBytes, queue: Queue) -> PackedNext
 }
 
 // R1: masked or linked ends the call; else R2.
-#[tactic(auto, unfolding(calls::specs::Hypervisor::reply_r1, crate::specs::InPlace::in_place, crate::specs::Numbers::put_value, calls::specs::Hypervisor::due))]
 fn reply_r1(domain: &mut DomainBytes, seen: u32) -> PackedNext
     ensures { (e : ℕ) → wrote (unpacked result) domain.new ≡ in_place link_bits domain.old (reply_r1 (call_at domain.old) e seen) }
 {
@@ -68,7 +69,6 @@ fn reply_r1(domain: &mut DomainBytes, seen: u32) -> PackedNext
 }
 
 // U1: pending and not linked goes on at R2.
-#[tactic(auto, unfolding(calls::specs::Hypervisor::reply_u1, crate::specs::InPlace::in_place, crate::specs::Numbers::put_value, calls::specs::Hypervisor::due))]
 fn reply_u1(domain: &mut DomainBytes, seen: u32) -> PackedNext
     ensures { (e : ℕ) → wrote (unpacked result) domain.new ≡ in_place link_bits domain.old (reply_u1 (call_at domain.old) e seen) }
 {
@@ -80,7 +80,6 @@ fn reply_u1(domain: &mut DomainBytes, seen: u32) -> PackedNext
 }
 
 // A bind's read: an old event that is still linked refuses it (7).
-#[tactic(auto, using(crate::proofs::NumberLaws::put_same), unfolding(calls::specs::Hypervisor::reply_bind, crate::specs::InPlace::in_place, crate::specs::Numbers::put_value, calls::specs::Hypervisor::due))]
 fn reply_bind(domain: &mut DomainBytes, entry: &mut EntryBytes, seen: u32) -> PackedNext
     ensures domain { wrote (unpacked result) domain.new ≡ in_place link_bits domain.old (reply_bind (call_at domain.old) (entry_at entry.old) seen) }
     ensures entry { entry.new ≡ put_entry_at entry.old (reply_bind (call_at domain.old) (entry_at entry.old) seen).entry }
@@ -95,7 +94,6 @@ fn reply_bind(domain: &mut DomainBytes, entry: &mut EntryBytes, seen: u32) -> Pa
 }
 
 // A close's and.
-#[tactic(auto, unfolding(calls::specs::Hypervisor::reply_close, crate::specs::InPlace::in_place, crate::specs::Numbers::put_value, calls::specs::Hypervisor::due))]
 fn reply_close(domain: &mut DomainBytes, entry: &mut EntryBytes) -> PackedNext
     ensures domain { wrote (unpacked result) domain.new ≡ in_place link_bits domain.old (reply_close (call_at domain.old) (entry_at entry.old)) }
     ensures entry { entry.new ≡ put_entry_at entry.old (reply_close (call_at domain.old) (entry_at entry.old)).entry }
@@ -122,7 +120,6 @@ fn reply_first(domain: &mut DomainBytes, entry: &mut EntryBytes, seen: u32) -> P
 }
 
 // R2, the rule on a moved port: its last queue loses its tail where that is the port and the queue is another.
-#[tactic(auto, unfolding(calls::specs::Hypervisor::stale_queue, crate::specs::Numbers::put_value))]
 fn clear_stale(domain: &mut DomainBytes, entry: u16, port: Port, queue: Queue)
     ensures { domain.new ≡ put_tail domain.old (stale_queue entry port queue (tail_at domain.old (last_queue entry))).0 0 }
 {
@@ -158,7 +155,7 @@ fn reply_r2(domain: &mut DomainBytes, entry: &mut EntryBytes, seen: u32) -> Pack
 
 // After R2: R5 where the queue has no tail or the port itself as its tail, else R3.
 fn from_r2(domain: &mut DomainBytes, queue: Queue) -> PackedNext
-    ensures { wrote (unpacked result) domain.new ≡ from_r2 domain.old queue }
+    ensures { wrote (unpacked result) domain.new ≡ after_r2_in_place domain.old queue }
 {
     let call = domain_record::call_at(domain);
     let tail = numbers::value_at(domain, layout::TAILS, queue);
@@ -178,7 +175,7 @@ fn from_r2(domain: &mut DomainBytes, queue: Queue) -> PackedNext
 
 // A cas of the tail's word is named; tries counts the cas named, with this one.
 fn to_r4(domain: &mut DomainBytes, tries: u32, word: u32) -> PackedNext
-    ensures { wrote (unpacked result) domain.new ≡ to_r4 link_bits domain.old tries word }
+    ensures { wrote (unpacked result) domain.new ≡ r4_in_place link_bits domain.old tries word }
 {
     let call = domain_record::call_at(domain);
     let tail = numbers::value_at(domain, layout::TAILS, call.queue);
@@ -195,7 +192,7 @@ fn to_r4(domain: &mut DomainBytes, tries: u32, word: u32) -> PackedNext
 
 // The and that clears BUSY of the tail's word is named; word is the latest word seen.
 fn to_clear_busy(domain: &mut DomainBytes, word: u32) -> PackedNext
-    ensures { wrote (unpacked result) domain.new ≡ to_clear_busy domain.old word }
+    ensures { wrote (unpacked result) domain.new ≡ clear_busy_in_place domain.old word }
 {
     let call = domain_record::call_at(domain);
     let tail = numbers::value_at(domain, layout::TAILS, call.queue);
@@ -207,7 +204,6 @@ fn to_clear_busy(domain: &mut DomainBytes, word: u32) -> PackedNext
 }
 
 // The call ends, and its port is its queue's tail.
-#[tactic(auto, unfolding(crate::specs::InPlace::in_place))]
 fn ends_tailed(domain: &mut DomainBytes, answer: Answer) -> PackedNext
     ensures { (e : ℕ) → wrote (unpacked result) domain.new ≡ in_place link_bits domain.old (ends_tailed e (call_at domain.old) answer) }
 {
@@ -217,7 +213,6 @@ fn ends_tailed(domain: &mut DomainBytes, answer: Answer) -> PackedNext
 }
 
 // R3: a word without LINKED goes on at R5; else the first cas, of that very word.
-#[tactic(auto, unfolding(calls::specs::Hypervisor::reply_r3, crate::specs::InPlace::in_place, crate::specs::Numbers::put_value, calls::specs::Hypervisor::due))]
 fn reply_r3(domain: &mut DomainBytes, seen: u32) -> PackedNext
     ensures { (e : ℕ) → wrote (unpacked result) domain.new ≡ in_place link_bits domain.old (reply_r3 (call_at domain.old) e seen) }
 {
@@ -229,7 +224,6 @@ fn reply_r3(domain: &mut DomainBytes, seen: u32) -> PackedNext
 }
 
 // R4's first cas is not taken: R5 where the word seen lacks LINKED, else BUSY is set.
-#[tactic(auto, unfolding(calls::specs::Hypervisor::after_first_cas, crate::specs::InPlace::in_place, crate::specs::Numbers::put_value, calls::specs::Hypervisor::due))]
 fn after_first_cas(domain: &mut DomainBytes, seen: u32) -> PackedNext
     ensures { (e : ℕ) → wrote (unpacked result) domain.new ≡ in_place link_bits domain.old (after_first_cas (call_at domain.old) e seen) }
 {
@@ -246,7 +240,6 @@ fn after_first_cas(domain: &mut DomainBytes, seen: u32) -> PackedNext
 }
 
 // A later one is not taken: BUSY is cleared where the word seen lacks LINKED and after the fifth cas; else another cas.
-#[tactic(auto, unfolding(calls::specs::Hypervisor::after_later_cas, crate::specs::InPlace::in_place, crate::specs::Numbers::put_value, calls::specs::Hypervisor::due))]
 fn after_later_cas(domain: &mut DomainBytes, seen: u32) -> PackedNext
     ensures { (e : ℕ) → wrote (unpacked result) domain.new ≡ in_place link_bits domain.old (after_later_cas (call_at domain.old) e seen) }
 {
@@ -273,7 +266,6 @@ fn reply_r4(domain: &mut DomainBytes, seen: u32) -> PackedNext
 }
 
 // BUSY is set: the second cas compares with the word seen and BUSY.
-#[tactic(auto, unfolding(calls::specs::Hypervisor::reply_set_busy, crate::specs::InPlace::in_place, crate::specs::Numbers::put_value, calls::specs::Hypervisor::due))]
 fn reply_set_busy(domain: &mut DomainBytes, seen: u32) -> PackedNext
     ensures { (e : ℕ) → wrote (unpacked result) domain.new ≡ in_place link_bits domain.old (reply_set_busy (call_at domain.old) e seen) }
 {
@@ -285,7 +277,7 @@ fn reply_set_busy(domain: &mut DomainBytes, seen: u32) -> PackedNext
 }
 
 // BUSY is cleared: R5 where the latest word seen lacks LINKED; else the link is abandoned.
-#[tactic(auto, using(crate::proofs::ReplyLaws::r5_in_place), unfolding(calls::specs::Hypervisor::reply_clear_busy))]
+#[tactic(auto, using(crate::proofs::ReplyLaws::r5_move), unfolding(calls::specs::Hypervisor::reply_clear_busy))]
 fn reply_clear_busy(domain: &mut DomainBytes) -> PackedNext
     ensures { (e : ℕ) → wrote (unpacked result) domain.new ≡ in_place link_bits domain.old (reply_clear_busy (call_at domain.old) e) }
 {
@@ -311,7 +303,6 @@ fn reply_r5(domain: &mut DomainBytes) -> PackedNext
 }
 
 // R6: an upcall is wanted if the bit was clear.
-#[tactic(auto, unfolding(calls::specs::Hypervisor::reply_r6, crate::specs::InPlace::in_place, crate::specs::Numbers::put_value))]
 fn reply_r6(domain: &mut DomainBytes, seen: u32) -> PackedNext
     ensures { (e : ℕ) → wrote (unpacked result) domain.new ≡ in_place link_bits domain.old (reply_r6 (call_at domain.old) e seen) }
 {
