@@ -35,7 +35,7 @@ code_line side code =
 unfoldable pub answer_line : Side → Answer → Line
 answer_line side a = code_line side (code_of a)
 
--- no line of no event
+-- the line of an event, if it has one
 unfoldable pub line_of : Event → Option Line
 line_of Nothing = None
 line_of (HypervisorAccess c a seen) = Some (access_line side.Hypervisor a seen)

@@ -3,14 +3,14 @@ mod digits;
 mod row;
 
 ghost use Rattle.std.specs.Prelude.{◌≡◌};
-ghost use Rattle.access_log.specs.Line.{ascii, dash, decimal, row, access_bytes, call_bytes, bytes_of};
+ghost use Rattle.access_log.specs.Line.{ascii, dash, decimal, place_of, row, access_bytes, call_bytes, bytes_of};
 ghost use Rattle.access_log.specs.Line.Parts.{field_of, row_of};
 ghost use Rattle.access_log.specs.Text.{text, with_bytes, writing, write_of};
 
-use crate::line::row::Field::{Dash, Name, Number, Place, Word};
-use crate::line::row::{Field, Row};
+use crate::line::row::Field::{Dash, Number, Word};
+use crate::line::row::{Field, Row, Subject};
 use crate::text::Writer;
-use calls::types::Access;
+use calls::types::{Access, Place};
 use machine::types::Side;
 use std::error::Error;
 use std::fmt;
@@ -54,31 +54,52 @@ impl fmt::Display for TooShort {
 
 impl Error for TooShort {}
 
+// An access: its kind, its place and three fields more.
+#[tactic(auto, unfolding(crate::specs::Line::Parts::row_of, crate::specs::Line::Parts::subject_of, crate::specs::Line::Parts::fields_of, crate::specs::Line::Parts::field_of, crate::specs::Line::row))]
+fn place_row(
+    side: Side,
+    kind: &'static [u8],
+    place: Place,
+    old: Field,
+    operand: Field,
+    seen: Field,
+) -> Row
+    ensures { row_of result ≡ row side kind.now (place_of place) (field_of old) (field_of operand) (field_of seen) }
+{
+    Row {
+        side,
+        kind,
+        subject: Subject::Place(place),
+        fields: [old, operand, seen],
+    }
+}
+
 // A read has no operand, a store sees nothing, only a cas has an old word.
-#[tactic(auto, unfolding(crate::specs::Line::Parts::row_of, crate::specs::Line::Parts::fields_of, crate::specs::Line::Parts::field_of, crate::specs::Line::row, crate::specs::Line::access_bytes))]
+#[tactic(auto, unfolding(crate::specs::Line::Parts::field_of, crate::specs::Line::access_bytes))]
 fn access_row(side: Side, access: Access, seen: u32) -> Row
     ensures { row_of result ≡ access_bytes side access seen }
 {
     let seen = Word(seen);
-    let fields = match access {
-        Access::Read(place) => [Name(b"read"), Place(place), Dash, Dash, seen],
-        Access::Store(place, word) => [Name(b"store"), Place(place), Dash, Word(word), Dash],
-        Access::Or(place, word) => [Name(b"or"), Place(place), Dash, Word(word), seen],
-        Access::And(place, word) => [Name(b"and"), Place(place), Dash, Word(word), seen],
-        Access::Swap(place, word) => [Name(b"swap"), Place(place), Dash, Word(word), seen],
-        Access::Cas(place, old, new) => [Name(b"cas"), Place(place), Word(old), Word(new), seen],
-    };
-    Row { side, fields }
+    match access {
+        Access::Read(p) => place_row(side, b"read", p, Dash, Dash, seen),
+        Access::Store(p, word) => place_row(side, b"store", p, Dash, Word(word), Dash),
+        Access::Or(p, word) => place_row(side, b"or", p, Dash, Word(word), seen),
+        Access::And(p, word) => place_row(side, b"and", p, Dash, Word(word), seen),
+        Access::Swap(p, word) => place_row(side, b"swap", p, Dash, Word(word), seen),
+        Access::Cas(p, old, new) => place_row(side, b"cas", p, Word(old), Word(new), seen),
+    }
 }
 
 // A call with three fields after its name.
-#[tactic(auto, unfolding(crate::specs::Line::Parts::row_of, crate::specs::Line::Parts::fields_of, crate::specs::Line::Parts::field_of, crate::specs::Line::row))]
+#[tactic(auto, unfolding(crate::specs::Line::Parts::row_of, crate::specs::Line::Parts::subject_of, crate::specs::Line::Parts::fields_of, crate::specs::Line::Parts::field_of, crate::specs::Line::row))]
 fn named_call(side: Side, name: &'static [u8], first: Field, second: Field, third: Field) -> Row
     ensures { row_of result ≡ row side (ascii "call") name.now (field_of first) (field_of second) (field_of third) }
 {
     Row {
         side,
-        fields: [Name(b"call"), Name(name), first, second, third],
+        kind: b"call",
+        subject: Subject::Name(name),
+        fields: [first, second, third],
     }
 }
 
@@ -127,13 +148,15 @@ fn call_row(call: LoggedCall) -> Row
     }
 }
 
-#[tactic(auto, unfolding(crate::specs::Line::Parts::row_of, crate::specs::Line::Parts::fields_of, crate::specs::Line::Parts::field_of, crate::specs::Line::row))]
+#[tactic(auto, unfolding(crate::specs::Line::Parts::row_of, crate::specs::Line::Parts::subject_of, crate::specs::Line::Parts::fields_of, crate::specs::Line::Parts::field_of, crate::specs::Line::row))]
 fn answer_row(side: Side, number: u32, port: Field) -> Row
     ensures { row_of result ≡ row side (ascii "answer") (decimal number) (field_of port) dash dash }
 {
     Row {
         side,
-        fields: [Name(b"answer"), Number(number), port, Dash, Dash],
+        kind: b"answer",
+        subject: Subject::Number(number),
+        fields: [port, Dash, Dash],
     }
 }
 

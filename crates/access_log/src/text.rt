@@ -40,6 +40,8 @@ impl<'a> Writer<'a> {
     }
 }
 
+// put_byte, put_bytes and starts_as keep a buffer with a place beside it: the clauses of replay's State.antt speak of both apart.
+
 // A byte at a place of a buffer; the place after it.
 #[tactic(auto, unfolding(crate::specs::Text::with_bytes))]
 pub fn put_byte(out: &mut [u8], at: usize, byte: u8) -> usize

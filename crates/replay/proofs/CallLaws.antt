@@ -1,7 +1,7 @@
 -- An expand with the page that it adds and the guest's number of words, and a mask with its access, come to `begins`.
 -- Assumes nothing.
 use Rattle.std.specs.Prelude.{Ok, Err}
-use Prim.Native.Nat.{ℕ, ◌+◌, ◌*◌, ◌≤◌, ◌<◌}
+use Prim.Native.Nat.{ℕ, ◌+◌, ◌*◌, ◌^◌, ◌≤◌, ◌<◌}
 use mathlib.Core.Path.{◌≡◌, refl, ap, ◌∙◌, sym, subst}
 use mathlib.Core.Bool.{Bool, true, false, cond, not, false≢true}
 use mathlib.Core.List.{List, [], ◌∷◌}
@@ -54,6 +54,16 @@ use Rattle.replay.specs.Replay.{Player, playing, next_line, frames, step_of_call
 use Rattle.replay.specs.State.{world_in, due_lines, result_due, after_line}
 use Rattle.replay.proofs.ResultLaws.{request_due, access_number, access_read, answer_read}
 use Rattle.replay.proofs.StepLaws.{some_bits, narrow_small, call_exec, call_begins, hypervisor_began}
+
+-- ---- a call's numbers
+
+pub legal_expand : (frame : ℕ) → frame < 2 ^ 32 → LegalCall (call.ExpandArray frame)
+unfolding LegalCall
+legal_expand frame h = h
+
+pub legal_mask : (p : Port) → p.0 < 2 ^ 32 → LegalCall (call.Mask p)
+unfolding LegalCall
+legal_mask p h = h
 
 -- ---- a call by another name
 

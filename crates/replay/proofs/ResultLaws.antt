@@ -59,10 +59,6 @@ small_number NothingReady = refl
 small_number (Taken port) = refl
 small_number CallUnmask = refl
 
-pub answer_number : (a : Answer) (count : ℕ) → ltb (encoded_answer a count).code 0x100 ≡ true
-unfolding encoded_answer
-answer_number a count = small_number a
-
 pub access_number : (a : Access) → ltb (encoded_access a).code 0x100 ≡ false
 unfolding encoded_access encoded_place
 access_number (Read (Word p)) = refl

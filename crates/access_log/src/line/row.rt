@@ -1,19 +1,25 @@
-// A line of six fields: a side, and five fields more.
+// A line of six fields.
 ghost use Rattle.std.specs.Prelude.{◌≡◌};
 ghost use Rattle.access_log.specs.Line.{side_of, place_of};
-ghost use Rattle.access_log.specs.Line.Parts.{field_of, fields_of, row_of};
+ghost use Rattle.access_log.specs.Line.Parts.{subject_of, field_of, fields_of, row_of};
 ghost use Rattle.access_log.specs.Text.{Appends};
 
 use crate::text::Writer;
 use calls::types::Place;
 use machine::types::Side;
 
-// A field after the side: a dash where there is nothing, a name, a place, a word in hex, a decimal.
+// The third field: an access's place, a call's name, an answer's number.
+#[derive(Clone, Copy)]
+pub(crate) enum Subject {
+    Place(Place),
+    Name(&'static [u8]),
+    Number(u32),
+}
+
+// One of the last three fields: a dash where there is nothing, a word, a number.
 #[derive(Clone, Copy)]
 pub(crate) enum Field {
     Dash,
-    Name(&'static [u8]),
-    Place(Place),
     Word(u32),
     Number(u32),
 }
@@ -21,7 +27,9 @@ pub(crate) enum Field {
 #[derive(Clone, Copy)]
 pub(crate) struct Row {
     pub(crate) side: Side,
-    pub(crate) fields: [Field; 5],
+    pub(crate) kind: &'static [u8],
+    pub(crate) subject: Subject,
+    pub(crate) fields: [Field; 3],
 }
 
 impl Writer<'_> {
@@ -52,14 +60,23 @@ impl Writer<'_> {
         }
     }
 
+    #[tactic(auto, unfolding(crate::specs::Line::Parts::subject_of))]
+    fn subject(&mut self, subject: &Subject)
+        ensures { Appends self.old self.new (subject_of subject.now) }
+    {
+        match *subject {
+            Subject::Place(place) => self.place(place),
+            Subject::Name(name) => self.bytes(name),
+            Subject::Number(n) => self.decimal(n),
+        }
+    }
+
     #[tactic(auto, unfolding(crate::specs::Line::Parts::field_of))]
     fn field(&mut self, field: &Field)
         ensures { Appends self.old self.new (field_of field.now) }
     {
         match *field {
             Field::Dash => self.byte(b'-'),
-            Field::Name(name) => self.bytes(name),
-            Field::Place(place) => self.place(place),
             Field::Word(word) => self.hex(word),
             Field::Number(n) => self.decimal(n),
         }
@@ -76,11 +93,15 @@ impl Writer<'_> {
         self.byte(b'\n');
     }
 
-    #[tactic(auto, using(crate::proofs::TextLaws::with_append), unfolding(crate::specs::Line::Parts::row_of))]
+    #[tactic(auto, using(crate::proofs::TextLaws::with_append), unfolding(crate::specs::Line::Parts::row_of, crate::specs::Text::with_bytes))]
     pub(crate) fn row(&mut self, row: &Row)
         ensures { Appends self.old self.new (row_of row.now) }
     {
         self.side(row.side);
+        self.byte(b'\t');
+        self.bytes(row.kind);
+        self.byte(b'\t');
+        self.subject(&row.subject);
         self.fields(&row.fields);
     }
 }

@@ -53,9 +53,8 @@ fn begun(domain: &mut [u8], ledger: &mut [u8], start: Start) -> PackedNext
 
 impl Lent<'_> {
     // A page more, if the expand answers 0: it must be lent. The words of the page are set to 0, and her number of words follows.
-    #[tactic(auto, using(crate::proofs::CallLaws::expand_refused))]
+    #[tactic(auto, using(crate::proofs::CallLaws::legal_expand, crate::proofs::CallLaws::expand_refused))]
     fn expand(&mut self, frame: u32) -> Result<Option<Due>, Stop>
-        requires { LegalCall (LoggedCall.ExpandArray frame) }
         ensures same_references { KeepsReferences self.old self.new }
         ensures begun { (k : ℕ) → after_line result k self.new.due.now (world_lent self.new) ≡ begins link_bits (world_lent self.old) k (LoggedCall.ExpandArray frame) }
     {
@@ -75,9 +74,8 @@ impl Lent<'_> {
     }
 
     // A mask's access is made at once; its line is due, and its answer after it.
-    #[tactic(auto, using(crate::proofs::DueLaws::named_answer, crate::proofs::DueLaws::named_access, crate::proofs::CallLaws::mask_refused, crate::proofs::CallLaws::mask_made))]
+    #[tactic(auto, using(crate::proofs::CallLaws::legal_mask, crate::proofs::DueLaws::named_answer, crate::proofs::DueLaws::named_access, crate::proofs::CallLaws::mask_refused, crate::proofs::CallLaws::mask_made))]
     fn mask(&mut self, port: Port) -> Result<Option<Due>, Stop>
-        requires { LegalCall (LoggedCall.Mask port) }
         ensures same_references { KeepsReferences self.old self.new }
         ensures begun { (k : ℕ) → after_line result k self.new.due.now (world_lent self.new) ≡ begins link_bits (world_lent self.old) k (LoggedCall.Mask port) }
     {

@@ -8,12 +8,6 @@ use Rattle.machine.specs.declared.types.Start.TheVariants as start
 use mathlib.Core.Path.{refl}
 use Rattle.replay.proofs.player.lent.Lent.begin.Goals as goal
 
-pub expand-requires : goal.expand-requires
-expand-requires c = as_legal c.in-ExpandArray.is c.requires
-
-pub mask-requires : goal.mask-requires
-mask-requires c = as_legal c.in-Mask.is c.requires
-
 pub returns-in-ExpandArray-clause-begun : goal.returns-in-ExpandArray-clause-begun
 returns-in-ExpandArray-clause-begun c = λ k. as_begins _ k c.in-ExpandArray.is (c.expand.ensures.begun k)
 
