@@ -18,7 +18,7 @@ use word::{Port, Priority};
 
 // A call with its arguments as a line has them; the side follows from the call. init_control has VCPU, frame and offset,
 // expand_array its frame.
-#[derive(Clone, Copy)]
+#[derive(Clone, Copy, PartialEq, Eq)]
 pub enum LoggedCall {
     InitControl(u32, u32, u32),
     ExpandArray(u32),
@@ -33,7 +33,7 @@ pub enum LoggedCall {
 }
 
 // The header; an access with the word seen, 0 of a store; an answer's number; an answer's number with its port; a call.
-#[derive(Clone, Copy)]
+#[derive(Clone, Copy, PartialEq, Eq)]
 pub enum Line {
     Header,
     Access(Side, Access, u32),

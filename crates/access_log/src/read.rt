@@ -13,7 +13,7 @@ use machine::types::Side;
 use word::{Port, Priority, Queue};
 
 // What a text would be, if it is a line: an access is of a side.
-#[derive(Clone, Copy)]
+#[derive(Clone, Copy, PartialEq, Eq)]
 pub enum Kind {
     Header,
     Access(Side),

@@ -11,7 +11,7 @@ use calls::types::{Access, Answer, Made, Place, Refused};
 // C's four numbers of 32 bits, code, index, value and old, in two of 64, the first of each pair in the lower half: the calling
 // convention returns both structs in the same two registers, and this one takes fewer instructions to fill.
 #[repr(C)]
-#[derive(Clone, Copy)]
+#[derive(Clone, Copy, PartialEq, Eq)]
 pub struct PackedNext {
     pub first: u64,
     pub second: u64,

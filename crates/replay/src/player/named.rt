@@ -9,7 +9,7 @@ use calls::types::{Access, Place};
 use evtchn_fifo::encoded::PackedNext;
 use word::{Port, Queue};
 
-#[derive(Clone, Copy)]
+#[derive(Clone, Copy, PartialEq, Eq)]
 pub(crate) enum Named {
     Answer(Code),
     Access(Access),
