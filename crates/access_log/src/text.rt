@@ -27,15 +27,12 @@ impl<'a> Writer<'a> {
         }
     }
 
-    #[tactic(auto, using(crate::proofs::TextLaws::appended, crate::proofs::TextLaws::full), unfolding(crate::specs::Text::text))]
+    // Byte by byte: copy_from_slice calls memmove, and the archive may call memset and memcpy alone.
     pub(crate) fn bytes(&mut self, more: &[u8])
         ensures { Appends self.old self.new more.now }
     {
-        if self.len < self.out.len() {
-            let count = more.len().min(self.out.len() - self.len);
-            let end = self.len + count;
-            self.out[self.len..end].copy_from_slice(&more[..count]);
-            self.len = end;
+        for more_byte in more {
+            self.byte(*more_byte);
         }
     }
 }

@@ -10,6 +10,7 @@ ghost use Rattle.calls.specs.Hypervisor.{accept_init, accept_expand, accept_port
 ghost use Rattle.calls.specs.declared.types.Stage.TheVariants.{First};
 ghost use Rattle.calls.specs.declared.types.Answer.TheVariants.{Done};
 ghost use Rattle.evtchn_fifo.specs.Ledger.{entry_in, put_entry};
+ghost use Rattle.evtchn_fifo.specs.Numbers.{narrow};
 ghost use Rattle.evtchn_fifo.specs.DomainRecord.{owner_at, given_at, pages_at, put_call};
 ghost use Rattle.evtchn_fifo.specs.Encoded.{unpacked, wrote, carried, freshened, encoded_answer, encoded_access};
 ghost use Rattle.evtchn_fifo.specs.Hypervisor.{PortCall, starts_of, next_at, init_bytes, init_bytes_of, expand_bytes, expand_bytes_of, bind_bytes, close_bytes, set_priority_bytes, raise_bytes, unmask_bytes, reply_bytes, due_bytes, fresh_domain_bytes};
@@ -186,15 +187,16 @@ fn set_priority(
     domain: &mut DomainBytes,
     ledger: &mut [u8],
     port: Port,
-    priority: Priority,
+    priority: u64,
 ) -> Result<PackedNext, Answer>
-    ensures { carried (next_or_answer result) domain.new ledger.new ≡ started link_bits (starts_of link_bits (SetPriority priority)) domain.old ledger.old port }
+    ensures { carried (next_or_answer result) domain.new ledger.new ≡ started link_bits (starts_of link_bits (SetPriority (priority_at (narrow priority)))) domain.old ledger.old port }
 {
     let entry = accepted(domain, ledger, port)?;
-    if 15 < priority.0 {
+    let level = Priority(numbers::narrowed(priority));
+    if 15 < level.0 {
         return Err(Answer::BadPriority);
     }
-    Ok(settled(ledger, port, word::entry::with_priority(entry, priority)))
+    Ok(settled(ledger, port, word::entry::with_priority(entry, level)))
 }
 
 pub fn evtchn_fifo_bytes_set_priority(
@@ -208,8 +210,8 @@ pub fn evtchn_fifo_bytes_set_priority(
     let Some(record) = domain.first_chunk_mut() else {
         return encoded::too_short();
     };
-    let level = Priority(numbers::narrowed(priority));
-    encoded::next_or_answer(set_priority(record, ledger, Port(numbers::narrowed(port)), level))
+    let port = Port(numbers::narrowed(port));
+    encoded::next_or_answer(set_priority(record, ledger, port, priority))
 }
 
 // raise and unmask: 4, 6.
