@@ -160,7 +160,7 @@ fn answer_row(side: Side, number: u32, port: Field) -> Row
     }
 }
 
-// A line at the start of a buffer, as far as it fits; the place after it.
+// A line at the start of a buffer, as far as it fits; the place after it, and no slice, as in text.rt.
 #[tactic(auto, unfolding(crate::specs::Line::Parts::field_of, crate::specs::Line::bytes_of))]
 pub fn put_line(out: &mut [u8], line: Line) -> usize
     ensures { text out.new result ≡ with_bytes (text out.old 0) (bytes_of line) }

@@ -37,7 +37,7 @@ impl<'a> Writer<'a> {
     }
 }
 
-// put_byte, put_bytes and starts_as keep a buffer with a place beside it: the clauses of replay's State.antt speak of both apart.
+// The functions below keep a buffer with a place beside it: C's position of a replay has them so, and `feed_at` speaks of both apart.
 
 // A byte at a place of a buffer; the place after it.
 #[tactic(auto, unfolding(crate::specs::Text::with_bytes))]
@@ -57,7 +57,7 @@ pub fn put_bytes(out: &mut [u8], at: usize, more: &[u8]) -> usize
     writer.len
 }
 
-// Whether two texts are the same.
+// Whether two texts are the same: `==`, by the definition that the reader's statements use.
 #[tactic(auto, using(crate::proofs::ScanLaws::same_bytes))]
 pub fn same(s: &[u8], t: &[u8]) -> bool
     ensures { result ≡ same s.now t.now }

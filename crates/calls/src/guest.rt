@@ -81,6 +81,8 @@ pub fn bad_index(call: GuestCall, ready: u32, queue: Queue) -> GuestMove
     }
 }
 
+// Here and below a call, local bits and a number of words are asked for, and no guest, who would be more than callers have to give.
+
 // An index from H or HEAD: 18 where it is 0 or outside her words, else G2.
 #[tactic(auto, unfolding(crate::specs::Guest::takes_index))]
 pub fn takes_index(call: GuestCall, ready: u32, words: u32, queue: Queue, index: u32) -> GuestMove

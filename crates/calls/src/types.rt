@@ -73,7 +73,7 @@ pub struct Refused {
 }
 
 // The call that a hypervisor's call under way belongs to. None is no call, whatever the call's other fields hold: a record may be lent
-// with any, and each function answers on it, so that `Option<Call>` would take fewer records. Likewise None of the two stages below.
+// with any, and `reply` and `due` answer on it, so that `Option<Call>` would ask more of callers. Likewise None of the two stages below.
 #[derive(Clone, Copy, PartialEq, Eq)]
 pub enum Owner {
     None,
@@ -111,7 +111,8 @@ pub struct Call {
     pub count: u32,
 }
 
-// Document 01's house record: whether the control block is given, the array's pages, a tail for each queue (0 is none).
+// Document 01's house record: whether the control block is given, the array's pages, a tail for each queue (0 is none, and no Option:
+// C's bytes hold any number, and `after_r2` asks for 0; likewise a head H).
 #[derive(Clone, Copy, PartialEq, Eq)]
 pub struct Domain {
     pub given: bool,
@@ -121,7 +122,8 @@ pub struct Domain {
 }
 
 // A domain after a call or a reply, and what that comes to. It and `GuestOutcome` are no one generic type: their readers
-// name the record by its side, as `outcome.domain`.
+// name the record by its side, as `outcome.domain`. Likewise a hypervisor's call, a service and a clear_mask each have their own functions
+// (`call_at`, `goes_on`, `ends`, `next_of`): their fields differ, and a trait over the three would be longer than what it shares.
 #[derive(Clone, Copy, PartialEq, Eq)]
 pub struct Outcome {
     pub domain: Domain,

@@ -31,7 +31,7 @@ struct Tests<R, W> {
 
 impl<R: BufRead, W: Write> Tests<R, W> {
     fn test(&mut self) -> io::Result<()> {
-        self.out.write_all(self.script.line()?.as_slice())?;
+        self.script.line(&mut self.out)?;
         let verdict = if domain::test(&mut self.script)? {
             "ok"
         } else {
@@ -48,7 +48,7 @@ impl<R: BufRead, W: Write> Tests<R, W> {
                 Ok(Some(Item::Test))
             }
             b"#" => {
-                self.script.line()?;
+                self.script.line(&mut io::sink())?;
                 Ok(Some(Item::Remark))
             }
             _ => Ok(None),

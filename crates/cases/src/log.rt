@@ -132,7 +132,7 @@ pub(crate) fn print_log(
     out: &mut impl Write,
     ports: usize,
 ) -> io::Result<()> {
-    out.write_all(script.line()?.as_slice())?;
+    script.line(out)?;
     out.write_all(b"\n")?;
     let alloc = script.alloc;
     let mut log = Log {

@@ -10,8 +10,8 @@ use evtchn_fifo::encoded::PackedNext;
 use evtchn_fifo::hypervisor::{evtchn_fifo_bytes_close, evtchn_fifo_bytes_reply};
 use evtchn_fifo::{domain_record, encoded, numbers};
 
-// The port's cable is cut where its close answered 0. Port 0 is none and no Option: so `fallen` of specs/Rules.antt has it, of which
-// `cable_calls` speaks.
+// The port's cable is cut where its close answered 0. Port 0 is none and no Option: `fallen` of cables/specs/Rules.antt has it so, of
+// which `cable_calls` speaks.
 #[tactic(auto, unfolding(evtchn_fifo::specs::Encoded::unpacked, crate::specs::Encoded::fall_bytes))]
 fn cut_fallen(table: &mut [u8], number: u64, port: u32, next: PackedNext)
     ensures { table.new ≡ fall_bytes table.old number (fallen_at (unpacked next).code port) }
@@ -39,7 +39,7 @@ pub fn evtchn_cables_bytes_close(
     next
 }
 
-// Only a close's reply looks at the table: any other costs one test more than without cables.
+// Only a close's reply looks at the table.
 #[tactic(auto, unfolding(crate::specs::Encoded::reply_cables, crate::specs::Encoded::fall_bytes))]
 pub fn evtchn_cables_bytes_reply(
     table: &mut [u8],

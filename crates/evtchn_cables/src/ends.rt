@@ -12,7 +12,7 @@ pub const DOMAINS: u64 = 40;
 pub const PORTS: u32 = 0x10_0000;
 
 // The end at a port of a domain; 0, which is none, where the number has no room for one of the two. It stays a number and is no Option:
-// `end` of specs/Table.antt, of which `cable_calls` speaks, gives this 0, and the tables of C hold it.
+// `end` of cables/specs/Table.antt, of which `cable_calls` speaks, gives this 0, and the tables of C hold it.
 #[tactic(auto, unfolding(cables::specs::Table::end))]
 pub fn end_of(domain: u64, port: u32) -> u32
     ensures { result ≡ end domain port }
@@ -32,7 +32,7 @@ pub fn is_end(number: u32) -> bool
     u64::from(number / PORTS) < DOMAINS && number % PORTS != 0
 }
 
-// A port of a domain, with that domain's record and ledger, which tell whether it is bound: the C header's `evtchn_cables_end`.
+// A port of a domain, with that domain's record and ledger, which tell whether it is bound, as C's `evtchn_cables_end`.
 #[derive(Clone, Copy)]
 pub struct End<'a> {
     pub domain: &'a [u8],

@@ -10,7 +10,7 @@ pub const TABLE_SIZE: usize = 8192;
 
 pub const SLOTS: u32 = 1024;
 
-// A slot's two numbers: a cable exactly if both are ends.
+// A slot's two numbers: a cable exactly if both are ends. No Option of two ends: C lends any bytes, and `slot_in` of specs/ keeps what stands there.
 #[derive(Clone, Copy, PartialEq, Eq, Debug)]
 pub struct Slot {
     pub one: u32,

@@ -25,7 +25,7 @@ fn goes_on(guest: &mut GuestBytes, call: ClearCall, access: Access) -> PackedNex
     encoded::encoded_access(access)
 }
 
-// Each refusal is returned by itself: a start that refused by a Result took 3 instructions more.
+// Each refusal is returned by itself: by a Result a start takes 3 instructions more.
 fn clear_mask(guest: &mut GuestBytes, port: Port) -> PackedNext
     ensures { wrote (unpacked result) guest.new ≡ clear_began_of guest.old (clear_mask_start link_bits (without_heads (words_at guest.old) guest_idle (clear_call_at guest.old)) port) }
 {

@@ -10,7 +10,7 @@ use crate::{layout, numbers};
 use calls::types::{Call, Domain, Owner, Stage};
 use word::{Port, Queue};
 
-// Owners and stages are declared in the order of their codes.
+// Owners and stages are declared in the order of their codes. No `From`, as for the way back.
 pub fn owner_code(owner: Owner) -> u32
     ensures { result ≡ owner_code owner }
 {
@@ -93,7 +93,7 @@ pub(crate) fn owner_at(domain: &DomainBytes) -> Owner
 }
 
 // Whether a call is under way, told by the codes: a test on numbers is compiled to less than one on an owner. The stage is tested by itself:
-// joined by &&, the compiler reads and tests both words at every call, by 4 instructions.
+// joined by &&, both words are read and tested at every call, 4 instructions more.
 #[tactic(auto, using(crate::proofs::UnderWayLaws::under_way_is), unfolding(crate::specs::DomainRecord::owner_at, crate::specs::DomainRecord::call_at))]
 pub(crate) fn is_under_way(domain: &DomainBytes) -> bool
     ensures { result ≡ not (is_free (call_at domain.now).owner) }

@@ -32,6 +32,7 @@ fn packed(code: u32, index: u32, value: u32, old: u32) -> PackedNext
     }
 }
 
+// C's number for a record that is too short.
 pub fn too_short() -> PackedNext
     ensures { unpacked result ≡ too_short }
 {

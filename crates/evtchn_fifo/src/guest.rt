@@ -28,6 +28,7 @@ pub fn service_next_at(call: GuestCall, answer: Answer, count: u32) -> PackedNex
     encoded::encoded_access(calls::guest::guest_access(call))
 }
 
+// 0, or 64 where the record is too short: C's number, and no Result.
 pub fn evtchn_fifo_bytes_fresh_guest(guest: &mut [u8]) -> u32
     ensures { freshened result guest.new ≡ fresh_guest_bytes guest.old }
 {

@@ -10,7 +10,7 @@ use crate::{layout, numbers};
 use calls::types::{ClearCall, ClearStage, Guest, GuestCall, GuestStage};
 use word::{Port, Queue};
 
-// Stages are declared in the order of their codes.
+// Stages are declared in the order of their codes. No `From` and no `TryFrom`, here and for clear stages, as in domain_record.rt.
 pub fn guest_stage_code(stage: GuestStage) -> u32
     ensures { result ≡ guest_stage_code stage }
 {
@@ -78,7 +78,7 @@ pub(crate) fn put_service(guest: &mut GuestBytes, call: GuestCall)
     numbers::put_u32(guest, layout::GUEST_COUNT, call.count);
 }
 
-// Whether a clear_mask is under way, told by the code of its stage.
+// Whether a clear_mask is under way, told by the code of its stage, as in `is_under_way`.
 #[tactic(auto, using(crate::proofs::GuestLaws::clearing_is), unfolding(crate::specs::GuestRecord::clear_call_at))]
 pub(crate) fn is_clearing_at(guest: &GuestBytes) -> bool
     ensures { result ≡ is_clearing (clear_call_at guest.now).stage }

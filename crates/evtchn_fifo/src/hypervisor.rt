@@ -1,4 +1,5 @@
 // The hypervisor's seven calls and its reply, as C reaches them. Each takes the first bytes of a record as one of its own length.
+// The starts repeat `calls::hypervisor::start` on bytes, so that a refusal reads only the words that it tests.
 #![tactic(auto, unfolding(crate::specs::Hypervisor::next_at, crate::specs::Hypervisor::fresh_domain_bytes, crate::specs::Hypervisor::init_bytes, crate::specs::Hypervisor::expand_bytes, calls::specs::Hypervisor::accept_port, crate::specs::DomainRecord::call_at, crate::specs::Hypervisor::start_bytes, calls::specs::Hypervisor::begin_bind, calls::specs::Hypervisor::due, calls::specs::Records::is_free, crate::specs::Hypervisor::on_port, calls::specs::Hypervisor::begin_close, calls::specs::Hypervisor::begin_priority, calls::specs::Hypervisor::begin_link, crate::specs::Ledger::entry_in, crate::specs::Hypervisor::reply_bytes))]
 
 ghost use Rattle.std.specs.Prelude.{◌≡◌, false};
@@ -36,6 +37,7 @@ fn next_at(domain: &DomainBytes, call: Call, answer: Answer, count: u32) -> Pack
     encoded::encoded_access(stage::due(call, tail))
 }
 
+// 0, or 64 where the record is too short: C's number, and no Result.
 pub fn evtchn_fifo_bytes_fresh_domain(domain: &mut [u8]) -> u32
     ensures { freshened result domain.new ≡ fresh_domain_bytes domain.old }
 {

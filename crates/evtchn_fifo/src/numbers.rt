@@ -6,8 +6,9 @@ ghost use Rattle.evtchn_fifo.specs.Numbers.{number_at, put_number, number_in, pu
 
 use word::Queue;
 
-// Four functions for numbers of four and of two bytes: no trait of the library has from_le_bytes and to_le_bytes for both, and one of our
-// own would be longer. That the number lies in the bytes is a clause on both arguments, met by constants wherever a record is read.
+// Four functions for numbers of four and of two bytes: a trait over both would have to show its bytes equal to `number_at` for each, and
+// be longer than the four. That the number lies in the bytes is a clause on both arguments, here and below, met by constants wherever a
+// record is read.
 pub(crate) fn u32_at(bytes: &[u8], at: usize) -> u32
     requires { at + 4 ≤ length bytes.now }
     ensures { result ≡ number_at 3 bytes.now at }

@@ -1,5 +1,5 @@
-// One step of the machine, and a whole call with a budget. Ledger, words and control block stay parameters beside one another: a struct
-// of such lent slices would need a clause in each contract for each of them, that it still holds the same reference.
+// One step of the machine, and a whole call with a budget. Ledger, words and control block stay parameters beside one another, here and
+// in memory.rt: a struct of them would need a clause such as `KeepsReferences` of replay in each contract, beside what it says now.
 ghost use Rattle.std.specs.Prelude.{◌≡◌};
 ghost use Rattle.word.specs.Word.{link_bits};
 ghost use Rattle.machine.specs.Memory.{memory};

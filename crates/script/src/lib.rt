@@ -6,7 +6,7 @@ ghost use Rattle.script.specs.Names.{name_of, same_name, place_of};
 
 use std::alloc::Global;
 use std::io;
-use std::io::BufRead;
+use std::io::{BufRead, Write};
 
 // A script that is read from `input`. Any byte below a blank ends a word or a line, and their lengths are bounded: std's `split` and
 // `lines` know one end and no bound.
@@ -73,16 +73,15 @@ impl<R: BufRead> Script<R> {
         Ok(hexadecimal(self.word()?.as_slice()))
     }
 
-    // The rest of a line, without its end; of a longer one 65,536 bytes.
-    pub fn line(&mut self) -> io::Result<Vec<u8>> {
-        let mut text = Vec::new(self.alloc);
+    // Copies the rest of a line, without its end; of a longer one 65,536 bytes.
+    pub fn line(&mut self, out: &mut impl Write) -> io::Result<()> {
         for _ in 0..65536 {
             let Some(byte) = self.byte()?.filter(|byte| *byte >= b' ') else {
                 break;
             };
-            text.push(byte)?;
+            out.write_all(&[byte])?;
         }
-        Ok(text)
+        Ok(())
     }
 }
 
@@ -150,7 +149,9 @@ mod tests {
             alloc: rt.alloc(),
         };
         assert_eq!(rt; script.name()?.as_slice(), b"log".as_slice());
-        assert_eq!(rt; script.line()?.as_slice(), b"C 1".as_slice());
+        let mut title = Vec::new(rt.alloc());
+        script.line(&mut title)?;
+        assert_eq!(rt; title.as_slice(), b"C 1".as_slice());
         assert_eq!(rt; script.name()?.as_slice(), b"title".as_slice());
         assert_eq!(rt; script.name()?.as_slice(), b"raise".as_slice());
         assert_eq!(rt; script.name()?.as_slice(), b"ear_mask".as_slice());

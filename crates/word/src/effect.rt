@@ -30,7 +30,7 @@ pub fn after_and(word: u32, operand: u32) -> u32
     word & operand
 }
 
-// As after a store, under the name of its own access.
+// The same as `after_store`: `after_swap` of specs/ names it, as its access has a name of its own.
 #[tactic(auto, unfolding(crate::specs::Effect::after_swap))]
 pub fn after_swap(word: u32, value: u32) -> u32
     ensures { result ≡ after_swap word value }

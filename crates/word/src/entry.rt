@@ -18,7 +18,7 @@ pub fn priority_of(entry: u16) -> Priority
     Priority((entry % 16) as u32)
 }
 
-// Queue number equals priority.
+// Queue number equals priority. No `From`: this is the one way from a priority to a queue, under its name.
 pub fn queue_of(priority: Priority) -> Queue
     ensures { result ≡ queue_of priority }
 {

@@ -30,7 +30,7 @@ pub fn is_offset(offset: u32) -> bool
     offset % 8 == 0 && offset <= 4024
 }
 
-// init_control: 15, 17, 9, 11, 12.
+// init_control: 15, 17, 9, 11, 12. Here and below fields by themselves, and no domain: `evtchn_fifo` reads only these of a record in bytes.
 #[tactic(auto, unfolding(crate::specs::Hypervisor::accept_init))]
 pub fn accept_init(
     owner: Owner,

@@ -1,6 +1,6 @@
-// What the host lends a replay. The line that is being read stays apart: it is played while the rest changes. A call that takes two
-// fields gets each as a reference of its own, as `&mut *lent.words`: no rule covers two fields in one call. Each method ensures that the
-// references stay (`KeepsReferences`): without that a caller knows nothing of its bytes, and no ghost field can compare with before.
+// What the host lends a replay. The line that is being read stays apart: it is played while the rest changes. A call that lends two
+// fields takes each through a `let .. = &mut *self.x` first. Each method ensures `KeepsReferences`, without which its caller knows nothing of
+// the bytes.
 ghost use Rattle.std.specs.Prelude.{◌≤◌, length};
 ghost use Rattle.evtchn_fifo.specs.DomainRecord.{domain_size};
 ghost use Rattle.evtchn_fifo.specs.GuestRecord.{guest_size};
