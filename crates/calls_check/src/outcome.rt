@@ -52,17 +52,17 @@ fn access_at(kind: &[u8], place: Place, old: u32, operand: u32) -> Option<Access
 // names is one of an access, the numbers are an answer's.
 pub(crate) fn access(script: &mut Script<impl BufRead>) -> io::Result<Option<Outcome>> {
     let kind = script.name()?;
-    let spot = script.name()?;
+    let place_name = script.name()?;
     let index = script.small()?;
     let old = script.hex()?;
     let operand = script.hex()?;
     if place(kind.as_slice(), b"read store or and swap cas").is_none()
-        && place(spot.as_slice(), b"word ready head").is_none()
+        && place(place_name.as_slice(), b"word ready head").is_none()
     {
         return Ok(Some(answer_of(index, old, operand)));
     }
     Ok(
-        place_at(spot.as_slice(), index)
+        place_at(place_name.as_slice(), index)
             .and_then(|place| access_at(kind.as_slice(), place, old, operand))
             .map(Outcome::Access),
     )

@@ -1,4 +1,5 @@
-// The functions of `evtchn_cables` as C links them: each calls the one of its name there, and promises the same.
+// The functions of `evtchn_cables` as C links them: each calls the one of its name there, and promises the same. They stand in a
+// crate of their own, since a crate is a library or a static library.
 #![tactic(auto)]
 
 ghost use Rattle.std.specs.Prelude.{◌≡◌};

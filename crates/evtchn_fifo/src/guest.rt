@@ -1,4 +1,5 @@
-// The guest's service with its reply, mask and tell. C reaches the reply through clear_mask, which comes first.
+// The guest's service with its reply, mask and tell. C reaches the reply through clear_mask, which comes first. The stages stand here once
+// more, in place, for the reason that replies.rt gives.
 #![tactic(auto, unfolding(crate::specs::Guest::service_next_at, crate::specs::Guest::fresh_guest_bytes, calls::specs::Guest::service_start, calls::specs::Guest::guest_next, calls::specs::Guest::is_serving, calls::specs::Guest::guest_due, crate::specs::Guest::service_bytes, calls::specs::Guest::takes_index, crate::specs::Guest::guest_move_bytes, crate::specs::Numbers::put_value, calls::specs::Guest::reply_g0, calls::specs::Guest::service_queue, calls::specs::Guest::guest_staged, crate::specs::Guest::mask_bytes))]
 
 ghost use Rattle.std.specs.Prelude.{◌≡◌};
