@@ -102,7 +102,8 @@ pub fn expand_array(domain: Domain, frame: u64, frames: u64) -> Outcome
 pub fn bind(domain: Domain, ledger: &mut [u16], port: Port) -> Outcome
     ensures { turn result ledger.new ≡ bind_start link_bits domain ledger.old port }
 {
-    let begin = start::begin_bind(&domain, port, entry_at(ledger, port));
+    let found = entry_at(ledger, port);
+    let begin = start::begin_bind(domain.call.owner, domain.given, domain.pages, port, found);
     started(domain, ledger, port, begin)
 }
 
@@ -110,7 +111,8 @@ pub fn bind(domain: Domain, ledger: &mut [u16], port: Port) -> Outcome
 pub fn close(domain: Domain, ledger: &mut [u16], port: Port) -> Outcome
     ensures { turn result ledger.new ≡ close_start link_bits domain ledger.old port }
 {
-    let begin = start::begin_close(&domain, port, entry_at(ledger, port));
+    let found = entry_at(ledger, port);
+    let begin = start::begin_close(domain.call.owner, domain.given, domain.pages, port, found);
     started(domain, ledger, port, begin)
 }
 
@@ -118,7 +120,8 @@ pub fn close(domain: Domain, ledger: &mut [u16], port: Port) -> Outcome
 pub fn set_priority(domain: Domain, ledger: &mut [u16], port: Port, priority: Priority) -> Outcome
     ensures { turn result ledger.new ≡ set_priority link_bits domain ledger.old port priority }
 {
-    let begin = start::begin_priority(&domain, port, priority, entry_at(ledger, port));
+    let found = entry_at(ledger, port);
+    let begin = start::begin_priority(domain.call.owner, domain.given, port, priority, found);
     started(domain, ledger, port, begin)
 }
 
@@ -126,7 +129,14 @@ pub fn set_priority(domain: Domain, ledger: &mut [u16], port: Port, priority: Pr
 pub fn raise(domain: Domain, ledger: &mut [u16], port: Port) -> Outcome
     ensures { turn result ledger.new ≡ raise_start link_bits domain ledger.old port }
 {
-    let begin = start::begin_link(Owner::Raise, &domain, port, entry_at(ledger, port));
+    let begin = start::begin_link(
+        Owner::Raise,
+        domain.call.owner,
+        domain.given,
+        domain.pages,
+        port,
+        entry_at(ledger, port),
+    );
     started(domain, ledger, port, begin)
 }
 
@@ -134,7 +144,14 @@ pub fn raise(domain: Domain, ledger: &mut [u16], port: Port) -> Outcome
 pub fn unmask(domain: Domain, ledger: &mut [u16], port: Port) -> Outcome
     ensures { turn result ledger.new ≡ unmask_start link_bits domain ledger.old port }
 {
-    let begin = start::begin_link(Owner::Unmask, &domain, port, entry_at(ledger, port));
+    let begin = start::begin_link(
+        Owner::Unmask,
+        domain.call.owner,
+        domain.given,
+        domain.pages,
+        port,
+        entry_at(ledger, port),
+    );
     started(domain, ledger, port, begin)
 }
 

@@ -4,7 +4,7 @@ ghost use Rattle.word.specs.Word.{link_bits};
 ghost use Rattle.calls.specs.Hypervisor.{first_access, accept_port, is_offset, accept_init, accept_expand, begin_bind, begin_close, begin_priority, begin_link};
 
 use crate::records::{call_at, in_array, is_free, is_port, page_limit};
-use crate::types::{Answer, Call, Domain, Owner, Stage};
+use crate::types::{Answer, Call, Owner, Stage};
 use word::entry::{bound_entry, closed_entry, is_bound, with_priority};
 use word::{Port, Priority, Queue};
 
@@ -88,13 +88,13 @@ pub fn accept_expand(
 
 // The port's entry, past the refusals that every call on a port begins with: 15, 10, 3, 14.
 #[tactic(auto, unfolding(crate::specs::Hypervisor::accept_port))]
-pub fn accept_port(domain: &Domain, port: Port, found: Option<u16>) -> Result<u16, Answer>
-    ensures { result ≡ accept_port link_bits domain.now.call.owner domain.now.given port found }
+pub fn accept_port(owner: Owner, given: bool, port: Port, found: Option<u16>) -> Result<u16, Answer>
+    ensures { result ≡ accept_port link_bits owner given port found }
 {
-    if !is_free(domain.call.owner) {
+    if !is_free(owner) {
         return Err(Answer::CallUnderWay);
     }
-    if !domain.given {
+    if !given {
         return Err(Answer::NotGiven);
     }
     if !is_port(port) {
@@ -105,14 +105,20 @@ pub fn accept_port(domain: &Domain, port: Port, found: Option<u16>) -> Result<u1
 
 // bind: 15, 10, 3, 14, 5; 7 comes with the reply. Outside the array it is bound at once.
 #[tactic(auto, unfolding(crate::specs::Hypervisor::begin_bind))]
-pub fn begin_bind(domain: &Domain, port: Port, found: Option<u16>) -> Result<Begun, Answer>
-    ensures { result ≡ begin_bind link_bits domain.now.call.owner domain.now.given domain.now.pages port found }
+pub fn begin_bind(
+    owner: Owner,
+    given: bool,
+    pages: u32,
+    port: Port,
+    found: Option<u16>,
+) -> Result<Begun, Answer>
+    ensures { result ≡ begin_bind link_bits owner given pages port found }
 {
-    let entry = accept_port(domain, port, found)?;
+    let entry = accept_port(owner, given, port, found)?;
     if is_bound(entry) {
         return Err(Answer::AlreadyBound);
     }
-    if in_array(domain.pages, port) {
+    if in_array(pages, port) {
         return Ok(first_access(Owner::Bind, port));
     }
     Ok(Begun::Settled(bound_entry(entry)))
@@ -121,14 +127,20 @@ pub fn begin_bind(domain: &Domain, port: Port, found: Option<u16>) -> Result<Beg
 // close: 15, 10, 3, 14, 4. Outside the array it is closed at once. No one function serves it and bind: refusal, owner and entry all
 // differ, and two lines are shared.
 #[tactic(auto, unfolding(crate::specs::Hypervisor::begin_close))]
-pub fn begin_close(domain: &Domain, port: Port, found: Option<u16>) -> Result<Begun, Answer>
-    ensures { result ≡ begin_close link_bits domain.now.call.owner domain.now.given domain.now.pages port found }
+pub fn begin_close(
+    owner: Owner,
+    given: bool,
+    pages: u32,
+    port: Port,
+    found: Option<u16>,
+) -> Result<Begun, Answer>
+    ensures { result ≡ begin_close link_bits owner given pages port found }
 {
-    let entry = accept_port(domain, port, found)?;
+    let entry = accept_port(owner, given, port, found)?;
     if !is_bound(entry) {
         return Err(Answer::NotBound);
     }
-    if in_array(domain.pages, port) {
+    if in_array(pages, port) {
         return Ok(first_access(Owner::Close, port));
     }
     Ok(Begun::Settled(closed_entry(entry)))
@@ -137,14 +149,15 @@ pub fn begin_close(domain: &Domain, port: Port, found: Option<u16>) -> Result<Be
 // set_priority: 15, 10, 3, 14, 8; bound or not.
 #[tactic(auto, unfolding(crate::specs::Hypervisor::begin_priority))]
 pub fn begin_priority(
-    domain: &Domain,
+    owner: Owner,
+    given: bool,
     port: Port,
     priority: Priority,
     found: Option<u16>,
 ) -> Result<Begun, Answer>
-    ensures { result ≡ begin_priority link_bits domain.now.call.owner domain.now.given port priority found }
+    ensures { result ≡ begin_priority link_bits owner given port priority found }
 {
-    let entry = accept_port(domain, port, found)?;
+    let entry = accept_port(owner, given, port, found)?;
     if 15 < priority.0 {
         return Err(Answer::BadPriority);
     }
@@ -155,17 +168,19 @@ pub fn begin_priority(
 #[tactic(auto, unfolding(crate::specs::Hypervisor::begin_link))]
 pub fn begin_link(
     starts: Owner,
-    domain: &Domain,
+    owner: Owner,
+    given: bool,
+    pages: u32,
     port: Port,
     found: Option<u16>,
 ) -> Result<Begun, Answer>
-    ensures { result ≡ begin_link link_bits starts domain.now.call.owner domain.now.given domain.now.pages port found }
+    ensures { result ≡ begin_link link_bits starts owner given pages port found }
 {
-    let entry = accept_port(domain, port, found)?;
+    let entry = accept_port(owner, given, port, found)?;
     if !is_bound(entry) {
         return Err(Answer::NotBound);
     }
-    if !in_array(domain.pages, port) {
+    if !in_array(pages, port) {
         return Err(Answer::OutsideArray);
     }
     Ok(first_access(starts, port))
