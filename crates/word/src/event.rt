@@ -30,11 +30,16 @@ pub fn mask(flag: Flag) -> u32
 }
 
 // The operand of an and that clears a flag.
-#[tactic(auto, unfolding(crate::specs::Word::all_but, crate::specs::Word::mask))]
+#[tactic(auto, unfolding(crate::specs::Word::all_but))]
 pub fn all_but(flag: Flag) -> u32
     ensures { result ≡ all_but flag }
 {
-    !mask(flag)
+    match flag {
+        Flag::Pending => 0x7FFF_FFFF,
+        Flag::Masked => 0xBFFF_FFFF,
+        Flag::Linked => 0xDFFF_FFFF,
+        Flag::Busy => 0xEFFF_FFFF,
+    }
 }
 
 // The operand of the and that clears LINKED and LINK at once (G2).
