@@ -160,16 +160,17 @@ fn guess(s: &[u8]) -> Line
     }
 }
 
-// What a text would be, by its first two fields.
+// What a text would be, by its first two fields; after a header's first nothing is read.
 #[tactic(auto, using(crate::proofs::KindLaws::kind_told))]
 pub fn kind_of(s: &[u8]) -> Kind
     ensures { result ≡ kind_of (guess s.now) }
 {
     let (f, s) = split_field(s);
-    let (g, _) = split_field(s);
     if same(f, b"accesses") {
-        Kind::Header
-    } else if same(g, b"answer") {
+        return Kind::Header;
+    }
+    let (g, _) = split_field(s);
+    if same(g, b"answer") {
         Kind::Answer
     } else if same(g, b"call") {
         Kind::Call
