@@ -2,7 +2,7 @@
 mod digits;
 mod row;
 
-ghost use Rattle.std.specs.Prelude.{◌≡◌};
+ghost use Rattle.std.specs.Prelude.{◌≡◌, Some, codes};
 ghost use Rattle.access_log.specs.Line.{ascii, dash, decimal, place_of, row, access_bytes, call_bytes, bytes_of};
 ghost use Rattle.access_log.specs.Line.Parts.{field_of, row_of};
 ghost use Rattle.access_log.specs.Text.{text, with_bytes, writing, write_of};
@@ -47,6 +47,8 @@ pub enum Line {
 pub struct TooShort;
 
 impl fmt::Display for TooShort {
+    ghost output = { λ _. Some (codes "the buffer is too short for the line") };
+
     fn fmt<W: fmt::Write>(&self, f: &mut fmt::Formatter<W>) -> fmt::Result {
         f.write_str("the buffer is too short for the line")
     }
