@@ -68,7 +68,7 @@ pub missed_line : (f : Option Line) (len k : ℕ) (bytes : List ℕ) (w : World)
 unfolding after_line misses
 missed_line f len k bytes w l h = simp h
 
-pub missed_form : (f : Option Line) (len k : ℕ) (bytes : List ℕ) (w : World) → f ≡ None → after_line (Err NotOfTheForm) k bytes w ≡ misses (take len bytes) k f
+pub missed_form : (f : Option Line) (len k : ℕ) (bytes : List ℕ) (w : World) → f ≡ None → after_line (Err (NotOfTheForm len)) k bytes w ≡ misses (take len bytes) k f
 unfolding after_line misses
 missed_form f len k bytes w h = simp h
 

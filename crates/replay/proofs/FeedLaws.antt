@@ -27,7 +27,8 @@ use Rattle.replay.specs.declared.player.progress.Stopped.{Stopped}
 use Rattle.replay.specs.declared.player.Report.{Report}
 use Rattle.replay.specs.Replay.{Player, playing, stopped, report, next_line, ends}
 use Rattle.replay.specs.Player.{quick, Feed, feed, kept, line_ended, fed_byte, fed, lastly, reports}
-use Rattle.replay.specs.State.{due_in, due_lines, stopped_by, after_line, player_at, feed_at, feed_of, line_length, ends_line, ends_after}
+use Rattle.replay.specs.State.{due_in, due_lines, stopped_by, after_line, player_at, feed_at, due_of, playing_after, feed_of, line_length, ends_line, ends_after}
+use Rattle.replay.proofs.PositionLaws.{due_again}
 
 -- ---- bytes kept
 
@@ -126,7 +127,7 @@ module _ (n : ℕ) (w : World) (due : List (List ℕ)) (k : ℕ) where
 
 module _ (p : Playing) (line due bs : List ℕ) (w : World) (one : line_length bs ≡ length bs) where
   abbrev ds : List (List ℕ)
-  ds = due_lines p.due due
+  ds = due_lines (due_of p) due
 
   abbrev here : Feed
   here = fed link_bits (feed_of (Ok p) line due w) bs
@@ -136,7 +137,7 @@ module _ (p : Playing) (line due bs : List ℕ) (w : World) (one : line_length b
   here_ended e = fed_ended link_bits w ds p.lines bs (take p.line line) one e
 
   pub part_kept : (after : List ℕ) (end : ℕ) → length line ≡ 64 → ends_line bs ≡ false → text after end ≡ with_bytes (text line p.line) bs →
-      feed_of (Ok (record { lines = p.lines; line = end; due = p.due })) after due w ≡ here
+      feed_of (Ok (record { lines = p.lines; line = end; due = p.due; mask = p.mask })) after due w ≡ here
   unfolding feed_of
   part_kept after end size e put =
       ap (feed (playing w ds p.lines)) (kept_text bs line after p.line end size put) ∙ sym (fed_open link_bits w ds p.lines bs (take p.line line) one e)
@@ -149,10 +150,12 @@ module _ (p : Playing) (line due bs : List ℕ) (w : World) (one : line_length b
         ∙ ap (λ (x : List ℕ). line_ended (quick link_bits (playing w ds p.lines) x) x) (sym is)
         ∙ ap (λ (x : Player). line_ended x l) (sym (played p.lines))
 
-    goes_on_lem : (bytes : List ℕ) (d : Option Due) (q : Playing) → r ≡ Ok d → q ≡ record { lines = next_line p.lines; line = 0; due = d } → feed_of (Ok q) bytes due' w' ≡ here
+    goes_on_lem : (bytes : List ℕ) (d : Option Due) (q : Playing) → r ≡ Ok d → q ≡ playing_after (next_line p.lines) d → feed_of (Ok q) bytes due' w' ≡ here
     unfolding feed_of after_line
     goes_on_lem bytes d q e f =
-        ap (λ (x : Playing). feed_of (Ok x) bytes due' w') f ∙ sym (here_played ∙ ap (λ (x : Result (Option Due) Stop). line_ended (after_line x p.lines due' w') l) e)
+        ap (λ (x : Playing). feed_of (Ok x) bytes due' w') f
+        ∙ ap (λ (x : Option Due). feed (playing w' (due_lines x due') (next_line p.lines)) []) (due_again (next_line p.lines) d)
+        ∙ sym (here_played ∙ ap (λ (x : Result (Option Due) Stop). line_ended (after_line x p.lines due' w') l) e)
 
     stops : (after : List ℕ) (end : ℕ) (s : Stop) (q : Stopped) → r ≡ Err s → q ≡ record { lines = p.lines; line = end; stop = s } → take end after ≡ l → feed_of (Err q) after due' w' ≡ here
     unfolding feed_of after_line
@@ -167,7 +170,7 @@ module _ (p : Playing) (line due bs : List ℕ) (w : World) (one : line_length b
     first : take (min end 64) after ≡ kept_all (take p.line line) bs
     first = take_most after end (kept_size bs line after p.line end size put) ∙ kept_text bs line after p.line end size put
 
-    pub kept_goes_on : (d : Option Due) (q : Playing) → r ≡ Ok d → q ≡ record { lines = next_line p.lines; line = 0; due = d } → feed_of (Ok q) after due' w' ≡ here
+    pub kept_goes_on : (d : Option Due) (q : Playing) → r ≡ Ok d → q ≡ playing_after (next_line p.lines) d → feed_of (Ok q) after due' w' ≡ here
     kept_goes_on d q e f = goes_on_lem ended (take (min end 64) after) first r due' w' played after d q e f
 
     pub kept_stops : (s : Stop) (q : Stopped) → r ≡ Err s → q ≡ record { lines = p.lines; line = end; stop = s } → feed_of (Err q) after due' w' ≡ here
@@ -179,7 +182,7 @@ module _ (p : Playing) (line due bs : List ℕ) (w : World) (one : line_length b
     whole : bs ≡ kept_all (take p.line line) bs
     whole = rw none (sym (kept_more [] bs (omega arith)))
 
-    pub whole_goes_on : (d : Option Due) (q : Playing) → r ≡ Ok d → q ≡ record { lines = next_line p.lines; line = 0; due = d } → feed_of (Ok q) line due' w' ≡ here
+    pub whole_goes_on : (d : Option Due) (q : Playing) → r ≡ Ok d → q ≡ playing_after (next_line p.lines) d → feed_of (Ok q) line due' w' ≡ here
     whole_goes_on d q e f = goes_on_lem ended bs whole r due' w' played line d q e f
 
     pub whole_stops : (after : List ℕ) (end : ℕ) (s : Stop) (q : Stopped) → length line ≡ 64 → text after end ≡ with_bytes (text line 0) bs → r ≡ Err s → q ≡ record { lines = p.lines; line = end; stop = s } →

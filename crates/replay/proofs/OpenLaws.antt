@@ -79,7 +79,7 @@ module _ (w : World) (k : ℕ) (text : List ℕ) (c : LoggedCall) (is : c ≡ ca
   unfolding opened
   called h = simp (← is, ← put.is, h)
 
-  pub not_called : same (take len due) text ≡ false → (bytes : List ℕ) (v : World) → after_line (Err NotOfTheForm) k bytes v ≡ opened link_bits w k text (line.Call (call_in text))
+  pub not_called : same (take len due) text ≡ false → (bytes : List ℕ) (v : World) → after_line (Err (NotOfTheForm 0)) k bytes v ≡ opened link_bits w k text (line.Call (call_in text))
   unfolding opened after_line
   not_called h bytes v = simp (← is, ← put.is, h)
 

@@ -2,13 +2,14 @@
 -- Assumes nothing.
 use Prim.Native.Nat.{ℕ}
 use native.Mathlib.Omega.{arith}
-use mathlib.Core.Path.{◌≡◌, refl, ap}
+use mathlib.Core.Path.{◌≡◌, refl, ap, ◌∙◌, sym}
 use mathlib.Core.Bool.{Bool, true, false, cond, not}
 use mathlib.Core.List.{List, [], ◌∷◌}
 use lib.ListN.{take}
 use lib.Dec.{eqb}
 use borrow.Author.Tests.{ne_eqb}
-use Rattle.std.specs.Prelude.{Some, None, Ok, Err}
+use Rattle.std.specs.Prelude.{Option, Some, None, Result, Ok, Err, MatchOption}
+use Rattle.std.specs.Option.{option_map_or, option_map}
 use Rattle.std.specs.Int.{from_bool}
 use Rattle.std.specs.Int.NonZero.{non_zero_usize_get}
 use Rattle.std.specs.declared.num.NonZeroUsize.{NonZeroUsize}
@@ -22,44 +23,53 @@ use Rattle.replay.specs.declared.player.due.Stop.{Stop}
 use Rattle.replay.specs.declared.player.due.Stop.TheVariants.{Differs, NotOfTheForm, NotLent}
 use Rattle.replay.specs.declared.player.progress.Playing.{Playing}
 use Rattle.replay.specs.declared.player.progress.Stopped.{Stopped}
-use Rattle.replay.specs.Replay.{Player}
+use Rattle.replay.specs.Replay.{Player, playing}
 use Rattle.replay.specs.Player.{feed}
-use Rattle.replay.specs.State.{answer_after, then_answer, due_in, due_lines, stop_kind, stop_due, stopped_by, player_at, feed_at, feed_of}
+use Rattle.replay.specs.State.{then_answer, due_in, due_lines, stop_kind, stopped_by, player_at, feed_at, due_of, playing_after, feed_of, position_due, position_of}
+
+-- ---- what is due
+
+-- a line that has just ended leaves what is due after it
+mask_again : (b : Bool) → not (eqb (from_bool b) 0) ≡ b
+mask_again true = refl
+mask_again false = refl
+
+pub due_again : (k : ℕ) (d : Option Due) → due_of (playing_after k d) ≡ d
+due_again k None = refl
+due_again k (Some d) = ap (λ (b : Bool). Some (record { len = d.len; masks = b })) (mask_again d.masks)
 
 masks_by : (b : Bool) → then_answer (not b) ≡ cond b [] (bytes_of (line.Answer side.Guest 0) ∷ [])
 masks_by true = refl
 masks_by false = refl
 
-mask_by : (b : Bool) → answer_after (from_bool b) ≡ then_answer b
-mask_by true = refl
-mask_by false = refl
+due_by : (d : Option NonZeroUsize) (mask : ℕ) (due : List ℕ) →
+    due_in due (option_map_or non_zero_usize_get d 0) mask ≡ due_lines (option_map (λ len. record { len = len; masks = not (eqb mask 0) }) d) due
+unfolding due_in due_lines
+due_by None mask due = refl
+due_by (Some len) mask due = simp (ne_eqb len.value 0 (λ z. omega (arith, len.ok)), masks_by (eqb mask 0))
 
-module _ (line due : List ℕ) (w : World) where
-  pub playing_some : (q : Position) (len : NonZeroUsize) → q.stop ≡ 0 → non_zero_usize_get len ≡ q.due →
-      feed_of (Ok (record { lines = q.lines; line = q.line; due = Some (record { len = len; masks = not (eqb q.mask 0) }) })) line due w ≡ feed_at q line due w
-  unfolding feed_of feed_at player_at due_in due_lines
-  playing_some q len s e = simp (s, ← e, ne_eqb len.value 0 (λ z. omega (arith, len.ok)), masks_by (eqb q.mask 0))
+-- ---- positions
 
-  pub playing_none : (q : Position) → q.stop ≡ 0 → q.due ≡ 0 → feed_of (Ok (record { lines = q.lines; line = q.line; due = None })) line due w ≡ feed_at q line due w
-  unfolding feed_of feed_at player_at due_in due_lines
-  playing_none q s e = simp (s, e)
+stopped_at_by : (s : Stop) (k : ℕ) (due : List ℕ) (w : World) → player_at (record { lines = k; line = 0; due = position_due s; mask = 0; stop = stop_kind s }) due w ≡ stopped_by s k due
+unfolding player_at
+stopped_at_by (Differs n) k due w = refl
+stopped_at_by (NotOfTheForm n) k due w = refl
+stopped_at_by NotLent k due w = refl
 
-  pub position_some : (p : Playing) (d : Due) (len mask : ℕ) → p.due ≡ Some d → len ≡ non_zero_usize_get d.len → mask ≡ from_bool d.masks →
-      feed_at (record { lines = p.lines; line = p.line; due = len; mask = mask; stop = 0 }) line due w ≡ feed_of (Ok p) line due w
-  unfolding feed_of feed_at player_at due_in due_lines
-  position_some p d len mask s e f = simp (s, e, f, ne_eqb (non_zero_usize_get d.len) 0 (λ z. omega (arith, d.len.ok)), mask_by d.masks)
+pub position_feeds : (r : Result Playing Stopped) (line due : List ℕ) (w : World) → feed_at (position_of r) line due w ≡ feed_of r line due w
+unfolding position_of feed_of feed_at player_at
+position_feeds (Ok p) line due w = ap (λ (ds : List (List ℕ)). feed (playing w ds p.lines) (take p.line line)) (due_by p.due p.mask due)
+position_feeds (Err p) line due w = ap (λ (x : Player). feed x (take p.line line)) (stopped_at_by p.stop p.lines due w)
 
-  pub position_none : (p : Playing) → p.due ≡ None → feed_at (record { lines = p.lines; line = p.line; due = 0; mask = 0; stop = 0 }) line due w ≡ feed_of (Ok p) line due w
-  unfolding feed_of feed_at player_at due_in due_lines
-  position_none p s = simp s
+-- a position that has not stopped is that of its parts
+abbrev with_numbers : Position → ℕ → ℕ → Position
+with_numbers q due stop = record { lines = q.lines; line = q.line; due = due; mask = q.mask; stop = stop }
 
-  stopped_at_by : (s : Stop) (k : ℕ) → player_at (record { lines = k; line = 0; due = stop_due s; mask = 0; stop = stop_kind s }) due w ≡ stopped_by s k due
-  unfolding player_at
-  stopped_at_by (Differs n) k = refl
-  stopped_at_by NotOfTheForm k = refl
-  stopped_at_by NotLent k = refl
+numbers_of : (q : Position) (due : ℕ) → q.due ≡ due → q.stop ≡ 0 → q ≡ with_numbers q due 0
+numbers_of q due e s = ap (λ (n : ℕ). with_numbers q n q.stop) e ∙ ap (with_numbers q due) s
 
-  pub position_stopped : (p : Stopped) (len kind : ℕ) → len ≡ stop_due p.stop → kind ≡ stop_kind p.stop →
-      feed_at (record { lines = p.lines; line = p.line; due = len; mask = 0; stop = kind }) line due w ≡ feed_of (Err p) line due w
-  unfolding feed_of feed_at player_at
-  position_stopped p len kind e f = simp (e, f) (ap (λ (x : Player). feed x (take p.line line)) (stopped_at_by p.stop p.lines))
+pub playing_is : (q : Position) (d : Option NonZeroUsize) → q.stop ≡ 0 → MatchOption d (q.due ≡ 0) (λ n. non_zero_usize_get n ≡ q.due) →
+    q ≡ position_of (Ok (record { lines = q.lines; line = q.line; due = d; mask = q.mask }))
+unfolding position_of
+playing_is q None s e = numbers_of q 0 e s
+playing_is q (Some n) s e = numbers_of q (non_zero_usize_get n) (sym e) s

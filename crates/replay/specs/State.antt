@@ -1,6 +1,8 @@
 -- What a position and the bytes lent to a replay mean: a player, as `Player.antt` has it.
 -- Assumes nothing.
-use Rattle.std.specs.Prelude.{ℕ, suc, Bool, false, cond, List, [], ◌∷◌, take, eqb, ltb, Option, Some, None, Result, Ok, Err}
+use Rattle.std.specs.Prelude.{ℕ, suc, Bool, false, cond, not, List, [], ◌∷◌, take, eqb, ltb, Option, Some, None, Result, Ok, Err}
+use Rattle.std.specs.Option.{option_map, option_map_or}
+use Rattle.std.specs.Int.{from_bool}
 use Rattle.std.specs.Int.NonZero.{non_zero_usize_get}
 use Rattle.calls.specs.declared.answer.Code.{Code}
 use Rattle.machine.specs.declared.types.Side.{Side}
@@ -61,12 +63,12 @@ named_in x = cond (ltb x.code 0x100) (named.Answer (code_in x)) (named.Access (d
 -- the kind of the report, and how many bytes of the line that was due are kept
 abbrev pub stop_kind : Stop → ℕ
 stop_kind (Differs due) = 1
-stop_kind NotOfTheForm = 22
+stop_kind (NotOfTheForm due) = 22
 stop_kind NotLent = 33
 
 abbrev pub stop_due : Stop → ℕ
 stop_due (Differs due) = due
-stop_due NotOfTheForm = 0
+stop_due (NotOfTheForm due) = 0
 stop_due NotLent = 0
 
 abbrev pub stopped_by : Stop → ℕ → List ℕ → Player
@@ -88,10 +90,27 @@ player_at p due w =
 unfoldable pub feed_at : Position → List ℕ → List ℕ → World → Feed
 feed_at p line due w = feed (player_at p due w) (take p.line line)
 
--- the same of code's own types
+-- what is due by code's own types, and where a line has just ended
+abbrev pub due_of : Playing → Option Due
+due_of p = option_map (λ len. record { len = len; masks = not (eqb p.mask 0) }) p.due
+
+abbrev pub playing_after : ℕ → Option Due → Playing
+playing_after k d = record { lines = k; line = 0; due = option_map (λ (e : Due). e.len) d; mask = option_map_or (λ (e : Due). from_bool e.masks) d 0 }
+
+-- a feed by them
 unfoldable pub feed_of : Result Playing Stopped → List ℕ → List ℕ → World → Feed
-feed_of (Ok p) line due w = feed (playing w (due_lines p.due due) p.lines) (take p.line line)
+feed_of (Ok p) line due w = feed (playing w (due_lines (due_of p) due) p.lines) (take p.line line)
 feed_of (Err p) line due w = feed (stopped_by p.stop p.lines due) (take p.line line)
+
+-- their numbers in C. A stop of 22 has that of the line that was due too, of which its player keeps nothing
+abbrev pub position_due : Stop → ℕ
+position_due (Differs due) = due
+position_due (NotOfTheForm due) = due
+position_due NotLent = 0
+
+unfoldable pub position_of : Result Playing Stopped → Position
+position_of (Ok p) = record { lines = p.lines; line = p.line; due = option_map_or non_zero_usize_get p.due 0; mask = p.mask; stop = 0 }
+position_of (Err p) = record { lines = p.lines; line = p.line; due = position_due p.stop; mask = 0; stop = stop_kind p.stop }
 
 -- ---- lines of a piece
 

@@ -64,15 +64,11 @@ pub fn evtchn_replay_bytes_start(
     evtchn_fifo_bytes_fresh_guest(guest);
     words.fill(0);
     block.fill(0);
-    Position::from(Playing {
-        lines: 0,
-        line: 0,
-        due: put_due(due, Line::Header, false),
-    })
+    Position::from(Playing::after(0, put_due(due, Line::Header, false)))
 }
 
 // A piece of the log.
-#[tactic(auto, using(crate::proofs::FeedLaws::over_stays))]
+#[tactic(auto, using(crate::proofs::FeedLaws::over_stays, crate::proofs::PositionLaws::position_feeds))]
 pub fn evtchn_replay_bytes_feed(
     position: Position,
     domain: &mut [u8; 100],

@@ -146,6 +146,6 @@ impl Lent<'_> {
         if starts_as(due, len, text) {
             return self.begin(call);
         }
-        Err(Stop::NotOfTheForm)
+        Err(Stop::NotOfTheForm(0))
     }
 }

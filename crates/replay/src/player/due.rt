@@ -5,7 +5,7 @@ ghost use Rattle.access_log.specs.Line.{bytes_of};
 ghost use Rattle.access_log.specs.Read.{read_line};
 ghost use Rattle.evtchn_fifo.specs.Encoded.{unpacked};
 ghost use Rattle.replay.specs.Player.{misses, met};
-ghost use Rattle.replay.specs.State.{stop_kind, stop_due, then_answer, due_lines, result_due, after_line};
+ghost use Rattle.replay.specs.State.{stop_kind, position_due, then_answer, due_lines, result_due, after_line};
 
 use crate::player::named::Named;
 use access_log::event::code_line;
@@ -23,11 +23,12 @@ pub(crate) struct Due {
     pub(crate) masks: bool,
 }
 
-// Why a replay stops at a line. Of the line that was due so many bytes are in the host's buffer; 0, where none was.
+// Why a replay stops at a line. Of the line that was due so many bytes are in the host's buffer; 0, where none was. C's position names
+// them also where the line read is not of the form, of which the player keeps none.
 #[derive(Clone, Copy, PartialEq, Eq, Debug)]
 pub(crate) enum Stop {
     Differs(usize),
-    NotOfTheForm,
+    NotOfTheForm(usize),
     NotLent,
 }
 
@@ -38,17 +39,18 @@ impl Stop {
     {
         match self {
             Stop::Differs(_) => 1,
-            Stop::NotOfTheForm => 22,
+            Stop::NotOfTheForm(_) => 22,
             Stop::NotLent => 33,
         }
     }
 
+    // The length that the position names.
     pub(crate) fn due(self) -> usize
-        ensures { result ≡ stop_due self }
+        ensures { result ≡ position_due self }
     {
         match self {
-            Stop::Differs(due) => due,
-            _ => 0,
+            Stop::Differs(due) | Stop::NotOfTheForm(due) => due,
+            Stop::NotLent => 0,
         }
     }
 }
@@ -75,11 +77,12 @@ pub(crate) fn put_answer(buffer: &mut [u8; 64], side: Side, next: PackedNext) ->
 // The line is not the one that is due, which has so many bytes: it differs, or is not of the form.
 #[tactic(auto, using(crate::proofs::DueLaws::missed_line, crate::proofs::DueLaws::missed_form))]
 pub(crate) fn miss(due: usize, text: &[u8]) -> Stop
-    ensures { (k : ℕ) (bytes : List ℕ) (w : World) → after_line (Err result) k bytes w ≡ misses (take due bytes) k (read_line text.now) }
+    ensures due_named { position_due result ≡ due }
+    ensures missed { (k : ℕ) (bytes : List ℕ) (w : World) → after_line (Err result) k bytes w ≡ misses (take due bytes) k (read_line text.now) }
 {
     match read_line(text) {
         Some(_) => Stop::Differs(due),
-        None => Stop::NotOfTheForm,
+        None => Stop::NotOfTheForm(due),
     }
 }
 

@@ -1,5 +1,5 @@
 // A piece of the log, line by line: a line that stands whole in it is played from there, any other from the host's buffer.
-ghost use Rattle.std.specs.Prelude.{◌≡◌, length, position, eqb, Ok};
+ghost use Rattle.std.specs.Prelude.{◌≡◌, length, position, eqb, false, Ok, IfOk};
 ghost use Rattle.word.specs.Word.{link_bits};
 ghost use Rattle.access_log.specs.Line.{newline};
 ghost use Rattle.replay.specs.Player.{fed};
@@ -37,7 +37,8 @@ fn is_ended(text: &[u8]) -> bool
 }
 
 impl Lent<'_> {
-    // A line, or a part of one that the piece's end cuts off. A line at which the replay stops is kept.
+    // A line, or a part of one that the piece's end cuts off, which leaves what is due as it was lent. A line at which the replay stops is
+    // kept.
     #[tactic(auto, using(crate::proofs::FeedLaws::part_kept))]
     fn feed_line(
         &mut self,
@@ -47,20 +48,22 @@ impl Lent<'_> {
     ) -> Result<Playing, Stopped>
         requires { line_length text.now ≡ length text.now }
         ensures same_references { KeepsReferences self.old self.new }
+        ensures as_lent { ends_line text.now ≡ false → IfOk result (λ p. (p.due ≡ at.due) × (p.mask ≡ at.mask)) }
         ensures fed { feed_of result line.new self.new.due.now (world_lent self.new) ≡ fed link_bits (feed_of (Ok at) line.old self.old.due.now (world_lent self.old)) text.now }
     {
         if !is_ended(text) {
             let len = put_bytes(line, at.line, text);
             return Ok(Playing { line: len, ..at });
         }
+        let due = at.due_line();
         if at.line == 0 && text.len() <= 64 {
-            match self.play_line(at.due, text) {
+            match self.play_line(due, text) {
                 Ok(due) => return Ok(at.next(due)),
                 Err(stop) => return Err(at.stopped(put_bytes(line, 0, text), stop)),
             }
         }
         let len = put_bytes(line, at.line, text);
-        match self.play_line(at.due, &line[..len.min(64)]) {
+        match self.play_line(due, &line[..len.min(64)]) {
             Ok(due) => Ok(at.next(due)),
             Err(stop) => Err(at.stopped(len, stop)),
         }

@@ -1,19 +1,20 @@
 // A position that goes on, and one at which a replay stopped.
-ghost use Rattle.std.specs.Prelude.{◌≡◌, ℕ, List, Ok, Err, MatchOption, eqb, false};
-ghost use Rattle.machine.specs.Exec.{World};
+ghost use Rattle.std.specs.Prelude.{◌≡◌, Ok, Err, MatchOption, eqb, false};
 ghost use Rattle.replay.specs.Replay.{next_line};
-ghost use Rattle.replay.specs.State.{feed_at, feed_of, stop_kind, stop_due};
+ghost use Rattle.replay.specs.State.{due_of, playing_after, position_of};
 
 use crate::player::Position;
 use crate::player::due::{Due, Stop};
 use std::num::NonZeroUsize;
 
-// How many lines agreed, and how many bytes of the one that is being read are kept.
+// How many lines agreed, how many bytes of the one that is being read are kept, and how many the line that is due has. The mask is C's
+// number, which stays as it was lent until a line has ended; any but 0 says that the line that is due is a mask's access.
 #[derive(Clone, Copy, PartialEq, Eq, Debug)]
 pub(crate) struct Playing {
     pub(crate) lines: u64,
     pub(crate) line: usize,
-    pub(crate) due: Option<Due>,
+    pub(crate) due: Option<NonZeroUsize>,
+    pub(crate) mask: u32,
 }
 
 // How many lines agreed, and how many bytes are kept of the one at which it stopped.
@@ -33,15 +34,36 @@ pub(crate) fn next_line(lines: u64) -> u64
 }
 
 impl Playing {
-    // After one line more that agreed.
-    pub(crate) fn next(self, due: Option<Due>) -> Playing
-        ensures { result ≡ record { lines = next_line self.lines; line = 0; due = due } }
+    // Where a line has just ended: so many agreed, and what is due.
+    pub(crate) fn after(lines: u64, due: Option<Due>) -> Playing
+        ensures { result ≡ playing_after lines due }
     {
+        let (due, mask) = match due {
+            Some(due) => (Some(due.len), u32::from(due.masks)),
+            None => (None, 0),
+        };
         Playing {
-            lines: next_line(self.lines),
+            lines,
             line: 0,
             due,
+            mask,
         }
+    }
+
+    pub(crate) fn due_line(self) -> Option<Due>
+        ensures { result ≡ due_of self }
+    {
+        self.due.map(|len| Due {
+            len,
+            masks: self.mask != 0,
+        })
+    }
+
+    // After one line more that agreed.
+    pub(crate) fn next(self, due: Option<Due>) -> Playing
+        ensures { result ≡ playing_after (next_line self.lines) due }
+    {
+        Playing::after(next_line(self.lines), due)
     }
 
     pub(crate) fn stopped(self, line: usize, stop: Stop) -> Stopped
@@ -57,48 +79,45 @@ impl Playing {
 
 impl Position {
     // Where the replay goes on, if it has not stopped.
-    #[tactic(auto, using(crate::proofs::PositionLaws::playing_some, crate::proofs::PositionLaws::playing_none))]
+    #[tactic(auto, using(crate::proofs::PositionLaws::playing_is))]
     pub(crate) fn playing(self) -> Option<Playing>
-        ensures { MatchOption result (eqb self.stop 0 ≡ false) (λ p. (line due : List ℕ) (w : World) → feed_of (Ok p) line due w ≡ feed_at self line due w) }
+        ensures { MatchOption result (eqb self.stop 0 ≡ false) (λ p. self ≡ position_of (Ok p)) }
     {
         if self.stop != 0 {
             return None;
         }
-        let due = NonZeroUsize::new(self.due).map(|len| Due {
-            len,
-            masks: self.mask != 0,
-        });
         Some(Playing {
             lines: self.lines,
             line: self.line,
-            due,
+            due: NonZeroUsize::new(self.due),
+            mask: self.mask,
         })
     }
 }
 
 impl From<Playing> for Position {
-    ghost from_gives = { λ p q. (line due : List ℕ) (w : World) → feed_at q line due w ≡ feed_of (Ok p) line due w };
+    ghost from_gives = { λ p q. q ≡ position_of (Ok p) };
 
-    #[tactic(auto, using(crate::proofs::PositionLaws::position_some, crate::proofs::PositionLaws::position_none))]
+    #[tactic(auto, unfolding(crate::specs::State::position_of))]
     fn from(at: Playing) -> Position {
-        let (due, mask) = match at.due {
-            Some(due) => (due.len.get(), u32::from(due.masks)),
-            None => (0, 0),
+        let due = match at.due {
+            Some(len) => len.get(),
+            None => 0,
         };
         Position {
             lines: at.lines,
             line: at.line,
             due,
-            mask,
+            mask: at.mask,
             stop: 0,
         }
     }
 }
 
 impl From<Stopped> for Position {
-    ghost from_gives = { λ p q. (line due : List ℕ) (w : World) → feed_at q line due w ≡ feed_of (Err p) line due w };
+    ghost from_gives = { λ p q. q ≡ position_of (Err p) };
 
-    #[tactic(auto, using(crate::proofs::PositionLaws::position_stopped))]
+    #[tactic(auto, unfolding(crate::specs::State::position_of))]
     fn from(at: Stopped) -> Position {
         Position {
             lines: at.lines,
