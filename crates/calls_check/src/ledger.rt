@@ -2,49 +2,54 @@
 use crate::outcome::{Outcome, access, answer};
 use crate::part;
 use crate::part::Part;
-use crate::state::{State, begun};
+use crate::state::{begun, call, entry_is, uncalled};
+use calls::types;
 use script::Script;
 use std::io;
 use std::io::BufRead;
 use word::entry::fresh_entry;
 
 // More entries than there are ports.
-const LONGEST: usize = 131073;
+pub(crate) const LONGEST: usize = 131073;
 
 #[derive(Drop)]
-struct LedgerPart {
-    state: State,
+struct LedgerPart<'a> {
+    outcome: types::Outcome,
+    ledger: &'a mut [u16],
 }
 
-impl LedgerPart {
+impl LedgerPart<'_> {
     fn holds(&self, script: &mut Script<impl BufRead>) -> io::Result<bool> {
-        let came = Outcome::from(self.state.next);
+        let came = Outcome::from(self.outcome.next);
         let holds = match script.name()?.as_slice() {
             b"names" => access(script)? == Some(came),
             b"gave" => came == answer(script)?,
-            b"entry" => self.state.entry_is(script.small()?, script.hex()?),
+            b"entry" => entry_is(self.ledger, script.small()?, script.hex()?),
             _ => false,
         };
         Ok(holds)
     }
 }
 
-impl Part for LedgerPart {
+impl Part for LedgerPart<'_> {
     fn command<R: BufRead>(&mut self, script: &mut Script<R>, name: &[u8]) -> io::Result<bool> {
         match name {
             b">" => self.holds(script),
             b"begun" => {
-                self.state.set_domain(begun(script.small()?));
+                self.outcome = uncalled(begun(script.small()?));
                 Ok(true)
             }
-            _ => self.state.call(script, name),
+            _ => call(&mut self.outcome, self.ledger, script, name),
         }
     }
 }
 
-// The script gives the ledger's entries, fresh or bound, and their number. Whether all names up to `done` are known, and all that is
-// expected holds.
-pub(crate) fn part(script: &mut Script<impl BufRead>) -> io::Result<bool> {
+// The script gives the ledger's entries, fresh or bound, and their number; the ledger lies in the space that is lent. Whether all names
+// up to `done` are known, and all that is expected holds.
+pub(crate) fn part(
+    script: &mut Script<impl BufRead>,
+    space: &mut [u16; LONGEST],
+) -> io::Result<bool> {
     let entry = match script.name()?.as_slice() {
         b"fresh" => fresh_entry(),
         b"bound" => 0x0107,
@@ -54,7 +59,11 @@ pub(crate) fn part(script: &mut Script<impl BufRead>) -> io::Result<bool> {
     if length > LONGEST {
         return Ok(false);
     }
-    let ledger = vec![in script.alloc; entry; length]?;
-    let state = State::new(begun(0), ledger);
-    part::holds(script, &mut LedgerPart { state }, b"done")
+    let ledger = &mut space[..length];
+    ledger.fill(entry);
+    let mut part = LedgerPart {
+        outcome: uncalled(begun(0)),
+        ledger,
+    };
+    part::holds(script, &mut part, b"done")
 }

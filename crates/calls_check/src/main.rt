@@ -11,6 +11,7 @@ mod part;
 mod record;
 mod state;
 
+use crate::ledger::LONGEST;
 use script::Script;
 use std::io;
 use std::io::{BufRead, Write};
@@ -22,22 +23,22 @@ enum Item {
     Remark,
 }
 
-// A script, and where its tests are reported.
+// A script, where its tests are reported, and space for their long ledgers.
 #[derive(Drop)]
-struct Tests<R, W> {
+struct Tests<'a, R, W> {
     script: Script<R>,
     out: W,
+    space: &'a mut [u16; LONGEST],
 }
 
-impl<R: BufRead, W: Write> Tests<R, W> {
+impl<R: BufRead, W: Write> Tests<'_, R, W> {
     fn test(&mut self) -> io::Result<()> {
         self.script.line(&mut self.out)?;
-        let verdict = if domain::test(&mut self.script)? {
-            "ok"
+        if domain::test(&mut self.script, self.space)? {
+            self.out.write_all(b" ok\n")
         } else {
-            "FAILED"
-        };
-        writeln!(self.out, " {verdict}")
+            self.out.write_all(b" FAILED\n")
+        }
     }
 
     // Runs the next test or passes over the next remark, if there is one.
@@ -73,11 +74,9 @@ impl<R: BufRead, W: Write> Tests<R, W> {
 
 fn main(rt: HostRuntime) -> io::Result<()> {
     let mut tests = Tests {
-        script: Script {
-            input: rt.reader(),
-            alloc: rt.alloc(),
-        },
+        script: Script { input: rt.reader() },
         out: io::writer(&rt),
+        space: &mut [0; LONGEST],
     };
     tests.run()
 }

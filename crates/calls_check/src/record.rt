@@ -1,5 +1,5 @@
 // Records made by hand.
-use crate::state::State;
+use crate::state::{State, uncalled};
 use calls::records;
 use calls::types::{Call, Domain, Owner, Stage};
 use script::{Script, is};
@@ -45,12 +45,12 @@ fn call(script: &mut Script<impl BufRead>) -> io::Result<Call> {
 
 // Sets an entry, a tail, the pages or the call under way; whether the script names one of them.
 pub(crate) fn set(state: &mut State, script: &mut Script<impl BufRead>) -> io::Result<bool> {
-    let domain = state.domain;
+    let domain = state.outcome.domain;
     let changed = match script.name()?.as_slice() {
         b"entry" => {
             let port = Port(script.small()?);
             let entry = (script.hex()? & 0xFFFF) as u16;
-            records::put_entry(state.ledger.as_mut_slice(), port, entry);
+            records::put_entry(&mut state.ledger, port, entry);
             domain
         }
         b"tail" => {
@@ -65,6 +65,6 @@ pub(crate) fn set(state: &mut State, script: &mut Script<impl BufRead>) -> io::R
         b"call" => records::with_call(domain, call(script)?),
         _ => return Ok(false),
     };
-    state.set_domain(changed);
+    state.outcome = uncalled(changed);
     Ok(true)
 }

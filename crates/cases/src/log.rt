@@ -4,6 +4,7 @@ use crate::command::{Command, Manner};
 use crate::world::World;
 use access_log::event::{access_line, line_of};
 use access_log::line::{Line, put_line};
+use arrayvec::ArrayVec;
 use calls::types::{Answer, Next};
 use machine::types::{Advance, Event, Side, Step};
 use script::Script;
@@ -12,12 +13,12 @@ use std::io::{BufRead, Write};
 
 // A log under way: the side whose whole call goes on, and the counts of the first 256 answers printed.
 #[derive(Drop)]
-struct Log<'a, R, W> {
-    script: &'a mut Script<R>,
-    out: &'a mut W,
-    world: World,
+struct Log<'s, 'o, 'w, R, W> {
+    script: &'s mut Script<R>,
+    out: &'o mut W,
+    world: World<'w>,
     going_on: Option<Side>,
-    counts: Vec<u32>,
+    counts: ArrayVec<u32, 256>,
 }
 
 // An answer with its count, if an event is one.
@@ -30,7 +31,7 @@ fn answer_of(event: Event) -> Option<(Answer, u32)> {
     }
 }
 
-impl<R: BufRead, W: Write> Log<'_, R, W> {
+impl<R: BufRead, W: Write> Log<'_, '_, '_, R, W> {
     fn print_line(&mut self, line: Line) -> io::Result<()> {
         // Fixed space with its length: put_line writes to what is lent.
         let mut space = [0u8; 64];
@@ -69,8 +70,8 @@ impl<R: BufRead, W: Write> Log<'_, R, W> {
         let Some((answer, count)) = answer else {
             return Ok(None);
         };
-        if self.counts.len() < 256 {
-            self.counts.push(count)?;
+        if !self.counts.is_full() {
+            self.counts.push(count);
         }
         Ok(Some(answer))
     }
@@ -106,7 +107,7 @@ impl<R: BufRead, W: Write> Log<'_, R, W> {
                 self.after(advance, manner)?;
             }
             Command::Short => {
-                let advance = self.world.advance_short(self.script.alloc)?;
+                let advance = self.world.advance_short();
                 self.after(advance, Manner::Logged)?;
             }
             Command::Raise(port, queue, count) => self.world.put_raise(port, queue, count),
@@ -126,21 +127,22 @@ impl<R: BufRead, W: Write> Log<'_, R, W> {
     }
 }
 
-// A log from its title on, from fresh records, on memory for so many ports; its first 10,000 turns, since a script may have no end.
-pub(crate) fn print_log(
+// A log from its title on, from fresh records, on a ledger and words that are lent; its first 10,000 turns, since a script may have
+// no end.
+pub(crate) fn print_log<'w>(
     script: &mut Script<impl BufRead>,
     out: &mut impl Write,
-    ports: usize,
+    ledger: &'w mut [u16],
+    words: &'w mut [u32],
 ) -> io::Result<()> {
     script.line(out)?;
     out.write_all(b"\n")?;
-    let alloc = script.alloc;
     let mut log = Log {
         script,
         out,
-        world: World::fresh(alloc, ports)?,
+        world: World::fresh(ledger, words),
         going_on: None,
-        counts: Vec::new(alloc),
+        counts: ArrayVec::new(),
     };
     log.print_line(Line::Header)?;
     for _ in 0..10000 {

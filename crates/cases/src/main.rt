@@ -10,6 +10,7 @@ use crate::log::print_log;
 use script::Script;
 use std::io;
 use std::io::{BufRead, Write};
+use word::entry::fresh_entry;
 
 // A script, and where its logs are printed.
 #[derive(Drop)]
@@ -19,11 +20,24 @@ struct Logs<R, W> {
 }
 
 impl<R: BufRead, W: Write> Logs<R, W> {
-    // The script's next log or remark; whether there was one. A large log has a word and an entry for every port.
+    fn log(&mut self) -> io::Result<()> {
+        let mut ledger = [fresh_entry(); 2048];
+        let mut words = [0; 2048];
+        print_log(&mut self.script, &mut self.out, &mut ledger, &mut words)
+    }
+
+    // A log with an entry and a word for every port.
+    fn large_log(&mut self) -> io::Result<()> {
+        let mut ledger = [fresh_entry(); 131072];
+        let mut words = [0; 131072];
+        print_log(&mut self.script, &mut self.out, &mut ledger, &mut words)
+    }
+
+    // The script's next log or remark; whether there was one.
     fn next(&mut self) -> io::Result<bool> {
         match self.script.name()?.as_slice() {
-            b"log" => print_log(&mut self.script, &mut self.out, 2048)?,
-            b"large" => print_log(&mut self.script, &mut self.out, 131072)?,
+            b"log" => self.log()?,
+            b"large" => self.large_log()?,
             b"#" => self.script.line(&mut io::sink())?,
             _ => return Ok(false),
         }
@@ -33,10 +47,7 @@ impl<R: BufRead, W: Write> Logs<R, W> {
 
 fn main(rt: HostRuntime) -> io::Result<()> {
     let mut logs = Logs {
-        script: Script {
-            input: rt.reader(),
-            alloc: rt.alloc(),
-        },
+        script: Script { input: rt.reader() },
         out: io::writer(&rt),
     };
     // A thousand logs and remarks at most: a script may have no end.

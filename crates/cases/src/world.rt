@@ -2,38 +2,36 @@
 use calls::types::{Guest, GuestStage, Next, Owner, Stage};
 use calls::{clear_mask, hypervisor, records};
 use machine::types::{Advance, Side, Sides, Step};
-use std::alloc::{AllocError, Global};
-use std::mem;
 use word::entry::fresh_entry;
 use word::{Port, Queue};
 
 #[derive(Drop)]
-pub(crate) struct World {
+pub(crate) struct World<'a> {
     sides: Sides,
-    ledger: Vec<u16>,
-    words: Vec<u32>,
+    ledger: &'a mut [u16],
+    words: &'a mut [u32],
     block: [u32; 18],
 }
 
-impl World {
-    // Fresh records and memory, with an entry and a word for each of so many ports.
-    pub(crate) fn fresh(alloc: Global, ports: usize) -> Result<World, AllocError> {
-        Ok(World {
+impl<'a> World<'a> {
+    // Fresh records, on a ledger and words that are lent.
+    pub(crate) fn fresh(ledger: &'a mut [u16], words: &'a mut [u32]) -> World<'a> {
+        World {
             sides: Sides {
                 domain: records::fresh_domain(),
                 guest: records::fresh_guest(),
             },
-            ledger: vec![in alloc; fresh_entry(); ports]?,
-            words: vec![in alloc; 0u32; ports]?,
+            ledger,
+            words,
             block: [0; 18],
-        })
+        }
     }
 
     pub(crate) fn advance(&mut self, step: Step) -> Advance {
         let advance = machine::step::advance(
             self.sides,
-            self.ledger.as_mut_slice(),
-            self.words.as_mut_slice(),
+            self.ledger,
+            self.words,
             &mut self.block,
             step,
         );
@@ -42,12 +40,16 @@ impl World {
     }
 
     // The hypervisor's access with a ledger of one entry.
-    pub(crate) fn advance_short(&mut self, alloc: Global) -> Result<Advance, AllocError> {
-        let short = vec![in alloc; fresh_entry(); 1]?;
-        let ledger = mem::replace(&mut self.ledger, short);
-        let advance = self.advance(Step::Perform(Side::Hypervisor));
-        self.ledger = ledger;
-        Ok(advance)
+    pub(crate) fn advance_short(&mut self) -> Advance {
+        let advance = machine::step::advance(
+            self.sides,
+            &mut [fresh_entry()],
+            self.words,
+            &mut self.block,
+            Step::Perform(Side::Hypervisor),
+        );
+        self.sides = advance.sides;
+        advance
     }
 
     // A raise at R5 is put under way.

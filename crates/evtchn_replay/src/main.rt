@@ -6,7 +6,7 @@
 mod player;
 mod print;
 
-ghost use Rattle.std.specs.Prelude.{◌≤◌};
+ghost use Rattle.std.specs.Prelude.{◌≤◌, length, IfOk};
 
 use crate::player::Player;
 use std::env::FillError;
@@ -65,20 +65,37 @@ fn counts(rt: &impl Env) -> bool {
     !matches!(rt.arg(3, &mut []), Err(FillError::NotPresent))
 }
 
+// Reads until the space is full or the log ends, and returns how many bytes it read. An error ends it, also of a read that was
+// interrupted, which std's `read_exact` would try again.
+fn read_full(log: &mut impl Read, space: &mut [u8]) -> io::Result<usize>
+    ensures { IfOk result (λ n. n ≤ length space.new) }
+{
+    let mut done = 0;
+    while done < space.len() {
+        let n = log.read(&mut space[done..])?;
+        if n == 0 {
+            break;
+        }
+        done += n;
+    }
+    Ok(done)
+}
+
 // Plays what the log gives, up to its end or to the first line that does not agree, and prints the report.
-fn run(rt: &(impl Env + Print + Eprint + AllocGlobal), log: &mut impl Read) -> io::Result<()> {
+fn run(rt: &(impl Env + Print + Eprint), log: &mut impl Read) -> io::Result<()> {
     let shown = counts(rt);
-    let mut player = Player::fresh(rt.alloc(), pages(rt) * 1024)?;
-    let mut piece = Vec::with_capacity(rt.alloc(), PIECE)?;
+    let mut ledger = [0; 262144];
+    let mut words = [0; 131072];
+    let mut player = Player::fresh(&mut ledger, &mut words[..pages(rt) * 1024]);
+    let mut piece = [0; PIECE];
     // A log may have no end.
     for turn in 0..1u64 << 40 {
-        piece.clear();
-        log.take(PIECE as u64).read_to_end(&mut piece)?;
-        player.feed(piece.as_slice());
+        let n = read_full(log, &mut piece)?;
+        player.feed(&piece[..n]);
         if shown && turn % 128 == 0 {
             print::count(rt, player.position.lines)?;
         }
-        if piece.is_empty() || player.position.stop != 0 {
+        if n == 0 || player.position.stop != 0 {
             break;
         }
     }

@@ -3,40 +3,37 @@ use replay::player::{
     Position, Report, evtchn_replay_bytes_feed, evtchn_replay_bytes_report,
     evtchn_replay_bytes_start,
 };
-use std::alloc::{AllocError, Global};
 
 // The encoded records, a ledger for every port, the lent pages and the control block; the line that is being read and the one that
 // is due.
 #[derive(Drop)]
-pub(crate) struct Player {
+pub(crate) struct Player<'a> {
     pub position: Position,
     domain: [u8; 100],
-    ledger: Vec<u8>,
+    ledger: &'a mut [u8],
     guest: [u8; 104],
-    words: Vec<u32>,
+    words: &'a mut [u32],
     block: [u32; 18],
     pub line: [u8; 64],
     pub due: [u8; 64],
 }
 
-impl Player {
-    // The start, over so many words.
-    pub(crate) fn fresh(alloc: Global, words: usize) -> Result<Player, AllocError> {
+impl<'a> Player<'a> {
+    // The start, over what is lent.
+    pub(crate) fn fresh(ledger: &'a mut [u8], words: &'a mut [u32]) -> Player<'a> {
         let mut domain = [0; 100];
-        let mut ledger = vec![in alloc; 0; 262144]?;
         let mut guest = [0; 104];
-        let mut words = vec![in alloc; 0; words]?;
         let mut block = [0; 18];
         let mut due = [0; 64];
         let position = evtchn_replay_bytes_start(
             &mut domain,
-            ledger.as_mut_slice(),
+            ledger,
             &mut guest,
-            words.as_mut_slice(),
+            words,
             &mut block,
             &mut due,
         );
-        Ok(Player {
+        Player {
             position,
             domain,
             ledger,
@@ -45,7 +42,7 @@ impl Player {
             block,
             line: [0; 64],
             due,
-        })
+        }
     }
 
     // Plays a piece of the log.
@@ -53,9 +50,9 @@ impl Player {
         self.position = evtchn_replay_bytes_feed(
             self.position,
             &mut self.domain,
-            self.ledger.as_mut_slice(),
+            self.ledger,
             &mut self.guest,
-            self.words.as_mut_slice(),
+            self.words,
             &mut self.block,
             &mut self.line,
             &mut self.due,

@@ -4,16 +4,18 @@
 ghost use Rattle.std.specs.Prelude.{◌≡◌, ◌↔◌, IsTrue};
 ghost use Rattle.script.specs.Names.{name_of, same_name, place_of};
 
-use std::alloc::Global;
+use arrayvec::ArrayVec;
 use std::io;
 use std::io::{BufRead, Write};
+
+// The letters of the longest word.
+const LONGEST: usize = 256;
 
 // A script that is read from `input`. Any byte below a blank ends a word or a line, and their lengths are bounded: std's `split` and
 // `lines` know one end and no bound.
 #[derive(Drop)]
 pub struct Script<R> {
     pub input: R,
-    pub alloc: Global,
 }
 
 impl<R: BufRead> Script<R> {
@@ -37,25 +39,25 @@ impl<R: BufRead> Script<R> {
         self.byte()
     }
 
-    // The next word, with no letters where the script ends. It has at most 256: of a longer one the next letter is passed over, and
-    // what follows is a word of its own.
-    fn word(&mut self) -> io::Result<Vec<u8>> {
-        let mut letters = Vec::new(self.alloc);
+    // The next word, with no letters where the script ends. Of one longer than the longest the next letter is passed over, and what
+    // follows is a word of its own.
+    fn word(&mut self) -> io::Result<ArrayVec<u8, LONGEST>> {
+        let mut letters = ArrayVec::new();
         let mut byte = self.first_byte()?;
-        for _ in 0..256 {
+        for _ in 0..LONGEST {
             let Some(letter) = byte.filter(|byte| *byte > b' ') else {
                 break;
             };
-            letters.push(letter)?;
+            letters.push(letter);
             byte = self.byte()?;
         }
         Ok(letters)
     }
 
     // The letters by which the next word is known, its last eight.
-    pub fn name(&mut self) -> io::Result<Vec<u8>> {
+    pub fn name(&mut self) -> io::Result<ArrayVec<u8, 8>> {
         let word = self.word()?;
-        Ok(name_of(word.as_slice()).to_vec(self.alloc)?)
+        Ok(ArrayVec::try_from(name_of(word.as_slice())).unwrap())
     }
 
     // A decimal number.
@@ -146,7 +148,6 @@ mod tests {
     fn reads_words(rt: HostRuntime) -> Result<(), Fail> {
         let mut script = Script {
             input: b"log C 1\ttitle\n  raise\n clear_mask 12A 99999999999999999999 4294967301 1FFFFFFFE 1x2".as_slice(),
-            alloc: rt.alloc(),
         };
         assert_eq!(rt; script.name()?.as_slice(), b"log".as_slice());
         let mut title = Vec::new(rt.alloc());
