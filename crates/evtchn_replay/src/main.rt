@@ -81,12 +81,16 @@ fn read_full(log: &mut impl Read, space: &mut [u8]) -> io::Result<usize>
     Ok(done)
 }
 
-// Plays what the log gives, up to its end or to the first line that does not agree, and prints the report.
-fn run(rt: &(impl Env + Print + Eprint), log: &mut impl Read) -> io::Result<()> {
+// Plays what the log gives over what is lent, up to its end or to the first line that does not agree, and prints the report.
+fn play(
+    rt: &(impl Env + Print + Eprint),
+    log: &mut impl Read,
+    ledger: &mut [u8],
+    words: &mut [u32],
+) -> io::Result<()> {
     let shown = counts(rt);
-    let mut ledger = [0; 262144];
-    let mut words = [0; 131072];
-    let mut player = Player::fresh(&mut ledger, &mut words[..pages(rt) * 1024]);
+    let count = (pages(rt) * 1024).min(words.len());
+    let mut player = Player::fresh(ledger, &mut words[..count]);
     let mut piece = [0; PIECE];
     // A log may have no end.
     for turn in 0..1u64 << 40 {
@@ -103,6 +107,13 @@ fn run(rt: &(impl Env + Print + Eprint), log: &mut impl Read) -> io::Result<()> 
         print::end_count(rt)?;
     }
     print::report(rt, &player)
+}
+
+// The same over a ledger and pages for every port.
+fn run(rt: &(impl Env + Print + Eprint), log: &mut impl Read) -> io::Result<()> {
+    let mut ledger = [0; 262144];
+    let mut words = [0; 131072];
+    play(rt, log, &mut ledger, &mut words)
 }
 
 fn main(rt: HostRuntime) -> io::Result<()> {
