@@ -116,8 +116,8 @@ extern "C" {
 /* The version of these headers: raised with every change of what C sees. */
 #define EVTCHN_FIFO_VERSION_MAJOR 0
 #define EVTCHN_FIFO_VERSION_MINOR 1
-#define EVTCHN_FIFO_VERSION_PATCH 2
-#define EVTCHN_FIFO_VERSION "0.1.2"
+#define EVTCHN_FIFO_VERSION_PATCH 3
+#define EVTCHN_FIFO_VERSION "0.1.3"
 
 /*
  * The number of this layout: of the records, the ledger and the codes below. evtchn_fifo_layout() of the archive must

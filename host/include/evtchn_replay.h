@@ -51,7 +51,7 @@ extern "C" {
  * The most stack that a call of either archive needs, return addresses with it. The archive for user space may write to the red zone
  * below that.
  */
-#define EVTCHN_REPLAY_STACK 1088u
+#define EVTCHN_REPLAY_STACK 1056u
 
 /* ---- what a replay comes to ---- */
 
