@@ -74,7 +74,7 @@ impl<R: BufRead, W: Write> Tests<'_, R, W> {
 
 fn main(rt: HostRuntime) -> io::Result<()> {
     let mut tests = Tests {
-        script: Script { input: rt.reader() },
+        script: Script::new(rt.reader()),
         out: io::writer(&rt),
         space: &mut [0; LONGEST],
     };

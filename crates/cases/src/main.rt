@@ -47,7 +47,7 @@ impl<R: BufRead, W: Write> Logs<R, W> {
 
 fn main(rt: HostRuntime) -> io::Result<()> {
     let mut logs = Logs {
-        script: Script { input: rt.reader() },
+        script: Script::new(rt.reader()),
         out: io::writer(&rt),
     };
     // A thousand logs and remarks at most: a script may have no end.

@@ -1,7 +1,7 @@
 // A script on standard input, or from another reader: words with blanks or line ends between them. No contract can say what is read.
 #![tactic(auto)]
 
-ghost use Rattle.std.specs.Prelude.{◌≡◌, ◌↔◌, IsTrue};
+ghost use Rattle.std.specs.Prelude.{◌≡◌, ◌↔◌, IsTrue, []};
 ghost use Rattle.script.specs.Names.{name_of, same_name, place_of};
 
 use arrayvec::ArrayVec;
@@ -16,9 +16,21 @@ const LONGEST: usize = 256;
 #[derive(Drop)]
 pub struct Script<R> {
     pub input: R,
+    // The letters of the word that was read last, kept here so that a word is not copied.
+    letters: ArrayVec<u8, LONGEST>,
 }
 
 impl<R: BufRead> Script<R> {
+    pub fn new(input: R) -> Script<R>
+        ensures input { result.input ≡ input }
+        ensures no_letters { result.letters.items ≡ [] }
+    {
+        Script {
+            input,
+            letters: ArrayVec::new(),
+        }
+    }
+
     // The next byte; none where the script ends.
     fn byte(&mut self) -> io::Result<Option<u8>> {
         let byte = self.input.fill_buf()?.first().copied();
@@ -41,28 +53,30 @@ impl<R: BufRead> Script<R> {
 
     // The next word, with no letters where the script ends. Of one longer than the longest the next letter is passed over, and what
     // follows is a word of its own.
-    fn word(&mut self) -> io::Result<ArrayVec<u8, LONGEST>> {
-        let mut letters = ArrayVec::new();
+    fn word(&mut self) -> io::Result<&[u8]> {
+        self.letters.clear();
         let mut byte = self.first_byte()?;
         for _ in 0..LONGEST {
             let Some(letter) = byte.filter(|byte| *byte > b' ') else {
                 break;
             };
-            letters.push(letter);
+            // There is room for as many letters as there are turns.
+            if self.letters.try_push(letter).is_err() {
+                break;
+            }
             byte = self.byte()?;
         }
-        Ok(letters)
+        Ok(self.letters.as_slice())
     }
 
     // The letters by which the next word is known, its last eight.
     pub fn name(&mut self) -> io::Result<ArrayVec<u8, 8>> {
-        let word = self.word()?;
-        Ok(ArrayVec::try_from(name_of(word.as_slice())).unwrap())
+        Ok(ArrayVec::try_from(name_of(self.word()?)).unwrap())
     }
 
     // A decimal number.
     pub fn number(&mut self) -> io::Result<u64> {
-        Ok(decimal(self.word()?.as_slice()))
+        Ok(decimal(self.word()?))
     }
 
     // A decimal number modulo 2^32.
@@ -72,7 +86,7 @@ impl<R: BufRead> Script<R> {
 
     // A hexadecimal number modulo 2^32.
     pub fn hex(&mut self) -> io::Result<u32> {
-        Ok(hexadecimal(self.word()?.as_slice()))
+        Ok(hexadecimal(self.word()?))
     }
 
     // Copies the rest of a line, without its end; of a longer one 65,536 bytes.
@@ -146,9 +160,9 @@ mod tests {
 
     #[test]
     fn reads_words(rt: HostRuntime) -> Result<(), Fail> {
-        let mut script = Script {
-            input: b"log C 1\ttitle\n  raise\n clear_mask 12A 99999999999999999999 4294967301 1FFFFFFFE 1x2".as_slice(),
-        };
+        let mut script = Script::new(
+            b"log C 1\ttitle\n  raise\n clear_mask 12A 99999999999999999999 4294967301 1FFFFFFFE 1x2".as_slice(),
+        );
         assert_eq!(rt; script.name()?.as_slice(), b"log".as_slice());
         let mut title = Vec::new(rt.alloc());
         script.line(&mut title)?;
