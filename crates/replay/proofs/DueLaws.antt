@@ -68,9 +68,9 @@ pub missed_line : (f : Option Line) (len k : ℕ) (bytes : List ℕ) (w : World)
 unfolding after_line misses
 missed_line f len k bytes w l h = simp h
 
-pub missed_form : (f : Option Line) (len k : ℕ) (bytes : List ℕ) (w : World) → f ≡ None → after_line (Err (NotOfTheForm len)) k bytes w ≡ misses (take len bytes) k f
+pub missed_form : (f : Option Line) (n len k : ℕ) (bytes : List ℕ) (w : World) → f ≡ None → after_line (Err (NotOfTheForm n)) k bytes w ≡ misses (take len bytes) k f
 unfolding after_line misses
-missed_form f len k bytes w h = simp h
+missed_form f n len k bytes w h = simp h
 
 abbrev pub Misses : Stop → ℕ → List ℕ → Type 0
 Misses s len text' = (k : ℕ) (bytes : List ℕ) (w : World) → after_line (Err s) k bytes w ≡ misses (take len bytes) k (read_line text')

@@ -79,9 +79,9 @@ module _ (w : World) (k : ℕ) (text : List ℕ) (c : LoggedCall) (is : c ≡ ca
   unfolding opened
   called h = simp (← is, ← put.is, h)
 
-  pub not_called : same (take len due) text ≡ false → (bytes : List ℕ) (v : World) → after_line (Err (NotOfTheForm 0)) k bytes v ≡ opened link_bits w k text (line.Call (call_in text))
+  pub not_called : same (take len due) text ≡ false → (n : ℕ) (bytes : List ℕ) (v : World) → after_line (Err (NotOfTheForm n)) k bytes v ≡ opened link_bits w k text (line.Call (call_in text))
   unfolding opened after_line
-  not_called h bytes v = simp (← is, ← put.is, h)
+  not_called h n bytes v = simp (← is, ← put.is, h)
 
 pub called_legal : (text : List ℕ) (c : LoggedCall) → c ≡ call_in text → LegalCall c
 called_legal text c e = rw e (call_in_legal text)

@@ -61,6 +61,9 @@ unfolding position_of feed_of feed_at player_at
 position_feeds (Ok p) line due w = ap (λ (ds : List (List ℕ)). feed (playing w ds p.lines) (take p.line line)) (due_by p.due p.mask due)
 position_feeds (Err p) line due w = ap (λ (x : Player). feed x (take p.line line)) (stopped_at_by p.stop p.lines due w)
 
+pub feeds_by : (q : Position) (r : Result Playing Stopped) → q ≡ position_of r → (line due : List ℕ) (w : World) → feed_at q line due w ≡ feed_of r line due w
+feeds_by q r e line due w = ap (λ (x : Position). feed_at x line due w) e ∙ position_feeds r line due w
+
 -- a position that has not stopped is that of its parts
 abbrev with_numbers : Position → ℕ → ℕ → Position
 with_numbers q due stop = record { lines = q.lines; line = q.line; due = due; mask = q.mask; stop = stop }

@@ -21,8 +21,8 @@ use Rattle.replay.specs.Player.{feed}
 use Rattle.std.specs.Prelude.{Option, Ok}
 use Rattle.replay.specs.declared.player.Position.{Position}
 use Rattle.replay.specs.declared.player.due.Due.{Due}
-use Rattle.replay.specs.State.{world_in, due_lines, feed_at, playing_after, feed_of, position_of}
-use Rattle.replay.proofs.PositionLaws.{due_again, position_feeds}
+use Rattle.replay.specs.State.{world_in, due_lines, feed_at, playing_after, feed_of}
+use Rattle.replay.proofs.PositionLaws.{due_again}
 
 module _ (d t g : List ℕ) (domain-long : domain_size ≤ length d) (guest-long : guest_size ≤ length g) where
   fresh_is : (words : ℕ) →
@@ -32,7 +32,7 @@ module _ (d t g : List ℕ) (domain-long : domain_size ≤ length d) (guest-long
 
   pub started : (d' t' g' ws' b b' due : List ℕ) (words i j k : ℕ) (header : Option Due) (q : Position) → freshened i d' ≡ fresh_domain_bytes d → freshened j t' ≡ fresh_ledger_bytes t → freshened k g' ≡ fresh_guest_bytes g →
       ws' ≡ replicate words 0 → length b ≡ 18 → b' ≡ replicate (length b) 0 → due_lines header due ≡ bytes_of line.Header ∷ [] →
-      q ≡ position_of (Ok (playing_after 0 header)) →
+      ((line due : List ℕ) (w : World) → feed_at q line due w ≡ feed_of (Ok (playing_after 0 header)) line due w) →
       (bytes : List ℕ) → feed_at q bytes due (world_in d' t' g' ws' b') ≡ feed (starts (entries t) words) []
   unfolding feed_of
   started d' t' g' ws' b b' due words i j k header q e f h m size n put at bytes =
@@ -42,8 +42,7 @@ module _ (d t g : List ℕ) (domain-long : domain_size ≤ length d) (guest-long
       ∙ ap (λ (x : List ℕ). world_in (fresh_domain_bytes d).record_bytes (fresh_ledger_bytes t).record_bytes (fresh_guest_bytes g).record_bytes x b') m
       ∙ ap (λ (x : List ℕ). world_in (fresh_domain_bytes d).record_bytes (fresh_ledger_bytes t).record_bytes (fresh_guest_bytes g).record_bytes (replicate words 0) x) (n ∙ ap (λ (y : ℕ). replicate y 0) size)
       ∙ fresh_is words in
-      ap (λ (x : Position). feed_at x bytes due (world_in d' t' g' ws' b')) at
-      ∙ position_feeds (Ok (playing_after 0 header)) bytes due (world_in d' t' g' ws' b')
+      at bytes due (world_in d' t' g' ws' b')
       ∙ ap (λ (x : Player). feed x [])
       (ap (λ (x : Option Due). playing (world_in d' t' g' ws' b') (due_lines x due) 0) (due_again 0 header)
       ∙ ap (λ (ds : List (List ℕ)). playing (world_in d' t' g' ws' b') ds 0) put
